@@ -1,0 +1,3 @@
+-- Laws of tests, quantifiers and bits, which the proofs of the crates above cite too.
+pub mod Tests
+pub mod Bits
