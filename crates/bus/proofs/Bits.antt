@@ -1,18 +1,18 @@
 -- Laws of the bits of a number, and of the number made of given bits. Assumes nothing.
-use Prim.Native.Nat.{ℕ, zero, suc, _+_, _-_, _*_, _/_, _%_, _^_, _<_, _≤_}
-use mathlib.Core.Path.{_≡_, refl, sym, ap, ap₂, subst, subst⁻¹, _∙_}
-use mathlib.Core.Bool.{Bool, true, false, not, _&&_, _||_, cond}
-use mathlib.Core.Logic.{_⊎_, inl, inr, ⊎-elim}
-use native.Mathlib.Nat.{le-of-suc-le-suc, not-suc-le-zero, eq-or-lt-of-le, le-refl, le-step, le-trans, lt-of-lt-of-le, add-zero, mul-one, one-mul, zero-mul, mod-lt, mod-eq-of-lt, mod-one, div-one, div-eq-of-lt, pow-suc, pow-succ', two-pow-succ, add-comm, div-add-mod', mul-comm, div-eq-of-lt-le, add-mul}
+use Prim.Native.Nat.{ℕ, zero, suc, _+_, _-_, _*_, _/_, _%_, _^_, _<_, _≤_, zero-le}
+use mathlib.Core.Path.{_≡_, refl, sym, ap, ap₂, subst⁻¹, _∙_}
+use mathlib.Core.Bool.{Bool, true, false, not, _&&_, _||_, or-true, or-false}
+use mathlib.Core.Logic.{⊎-elim}
+use native.Mathlib.Nat.{le-of-suc-le-suc, not-suc-le-zero, eq-or-lt-of-le, le-refl, le-step, lt-of-lt-of-le, lt-of-le-of-lt, add-zero, one-mul, zero-mul, mod-lt, mod-eq-of-lt, mod-one, div-one, div-eq-of-lt, pow-succ', two-pow-succ, add-comm, div-eq-of-lt-le, add-mul}
 use native.Mathlib.Omega.{arith}
-use lib.Dec.{T, eqb, leb, ltb, lit<}
-use lib.Arith.{digits-div, digits-mod, mod-mul, lt-one}
-use lib.Bits.{bitAnd, and-shr, and-mod}
-use lib.Pow.{pow-pos, pow-mono, shr-shr, pow-add, high, low, mod-mod-pow, field}
-use borrow.Author.Tests.{leb-true, leb-false}
+use lib.Dec.{T, T-not, not-T, eqb, leb, ltb, lit<, leb→le, le→leb, ltb→lt, lt→ltb}
+use lib.Arith.{digits-div, digits-mod, mod-mul}
+use lib.Bits.{bitAnd, and-shr, and-mod, and-mask, and-le-l}
+use lib.Pow.{pow-pos, pow-mono, shr-shr, high, low, mod-mod-pow, field, shl-exact}
+use borrow.Author.Tests.{ltb-true, ltb-false, leb-true, leb-false, eq-eqb, ne-eqb}
 use native.Mathlib.Numerals.{one-add}
-use Rattle.bus.specs.Bits.{toBit, bit, number}
-use Rattle.bus.proofs.Tests.{is-true, is-false, of-true, of-false, either, iff-eq}
+use Rattle.bus.specs.Bits.{toBit, bit, some, number}
+use Rattle.bus.proofs.Tests.{is-true, of-true, of-false, either, iff-eq, and-intro, and-left, and-right, some-intro, some-elim}
 
 pub toBit-lt : (b : Bool) → toBit b < 2
 toBit-lt true = lit< tt
@@ -143,3 +143,105 @@ bit-double x b i h =
 pub bit-low : (x b : ℕ) → b < 2 → bit (x * 2 + b) 0 ≡ eqb b 1
 unfolding bit
 bit-low x b h = ap (λ (n : ℕ). eqb (n % 2) 1) (div-one (x * 2 + b)) ∙ ap (λ (n : ℕ). eqb n 1) (digits-mod x h)
+
+-- ---- what shifts of a word compute
+
+-- 1 shifted left by k, at width w
+pub shifted-one : (k w : ℕ) → k < w → (1 * 2 ^ k) % 2 ^ w ≡ 2 ^ k
+shifted-one k w h = shl-exact 1 k w (lit< tt) (omega arith) ∙ one-mul (2 ^ k)
+
+-- the digit at place j shifted left by k, at width w
+pub shifted-digit : (x j k w : ℕ) → k < w → (x / 2 ^ j % 2 * 2 ^ k) % 2 ^ w ≡ toBit (bit x j) * 2 ^ k
+shifted-digit x j k w h =
+    shl-exact 1 k w (mod-lt (x / 2 ^ j) (lit< tt)) (omega arith) ∙ ap (λ (d : ℕ). d * 2 ^ k) (sym (bit-digit x j))
+
+-- one more bit of a number that is made of bits, where the bit comes as a shifted digit
+pub number-more : (k w : ℕ) (f : ℕ → Bool) (v x j : ℕ) → k < w → v ≡ number k f → bit x j ≡ f k
+    → v + (x / 2 ^ j % 2 * 2 ^ k) % 2 ^ w ≡ number (suc k) f
+unfolding number
+number-more k w f v x j h e b = ap₂ (λ (n m : ℕ). n + m) e (shifted-digit x j k w h ∙ ap (λ (t : Bool). toBit t * 2 ^ k) b)
+
+-- at most the word of k ones is below 2 ^ k
+pub le-ones-lt : (k x : ℕ) → leb x (2 ^ k - 1) ≡ ltb x (2 ^ k)
+le-ones-lt k x =
+    iff-eq (leb x (2 ^ k - 1)) (ltb x (2 ^ k)) (λ h. lt→ltb x (2 ^ k) (omega (arith, leb→le x (2 ^ k - 1) h, pow-pos k)))
+    (λ h. le→leb x (2 ^ k - 1) (omega (arith, ltb→lt x (2 ^ k) h)))
+
+-- a number is not 0 when some bit is set
+pub number-some : (k : ℕ) (f : ℕ → Bool) → not (eqb (number k f) 0) ≡ some k f
+unfolding number some
+number-some zero f = refl
+number-some (suc k) f = more (f k) (number-some k f)
+  where
+    more : (b : Bool) → not (eqb (number k f) 0) ≡ some k f → not (eqb (number k f + toBit b * 2 ^ k) 0) ≡ (some k f || b)
+    more true ih = rw or-true (ap not (ne-eqb (number k f + 1 * 2 ^ k) 0 (λ e. omega (arith, one-mul (2 ^ k), pow-pos k))))
+    more false ih = rw (zero-mul (2 ^ k), add-zero, or-false) ih
+
+-- a number of no set bits
+pub number-none : (k : ℕ) (f : ℕ → Bool) → ((i : ℕ) → i < k → f i ≡ false) → number k f ≡ 0
+number-none k f h = sym (number-is k 0 f (pow-pos k) (λ i l. bit-past 0 0 i (lit< tt) zero-le ∙ sym (h i l)))
+
+-- a bit is set only where it was asked for
+pub bit-holds : (k : ℕ) (f : ℕ → Bool) (i : ℕ) → T (bit (number k f) i) → T (f i)
+bit-holds k f i t =
+    ⊎-elim (λ (e : ltb i k ≡ true). rw (bit-number k f i (ltb-true i k e)) at t)
+    (λ (e : ltb i k ≡ false). absurd (of-false (bit-past (number k f) k i (number-lt k f) (ltb-false i k e)) t)) (either (ltb i k))
+
+-- ---- what remainders and masks of a word compute
+
+pub bit-zero : (x : ℕ) → eqb (x % 2) 1 ≡ bit x 0
+unfolding bit
+bit-zero x = ap (λ (n : ℕ). eqb (n % 2) 1) (sym (div-one x))
+
+-- the k lowest bits that two words share
+pub and-low : (a b m k : ℕ) → m ≡ 2 ^ k - 1 → bitAnd (bitAnd a b) m ≡ number k (λ (j : ℕ). bit a j && bit b j)
+and-low a b m k e =
+    ap (bitAnd (bitAnd a b)) e ∙ and-mask (bitAnd a b) k ∙ sym (number-bits k (bitAnd a b))
+    ∙ number-ext k (bit (bitAnd a b)) (λ (j : ℕ). bit a j && bit b j) (λ j _. bit-and a b j)
+
+-- a mask that has all bits of a word changes nothing, and one that changes nothing has them
+keeps : (k x m : ℕ) → x < 2 ^ k → ((i : ℕ) → i < k → T (bit x i) → T (bit m i)) → bitAnd x m ≡ x
+keeps k x m l h =
+    same-bits k (bitAnd x m) x (lt-of-le-of-lt (and-le-l x m) l) l (λ i g. bit-and x m i ∙ absorbs (bit x i) (bit m i) (h i g))
+  where
+    absorbs : (a b : Bool) → (T a → T b) → (a && b) ≡ a
+    absorbs true b f = is-true b (f tt)
+    absorbs false b f = refl
+
+kept : (x m i : ℕ) → bitAnd x m ≡ x → T (bit x i) → T (bit m i)
+kept x m i e t = and-right (bit x i) (bit m i) (rw (← bit-and x m i, e) t)
+
+bit-twice : (x i : ℕ) → bit (x * 2) (suc i) ≡ bit x i
+bit-twice x i = ap (λ (n : ℕ). bit n (suc i)) (sym (add-zero (x * 2))) ∙ bit-double x 0 i (lit< tt)
+
+bit-even : (x : ℕ) → bit (x * 2) 0 ≡ false
+bit-even x = ap (λ (n : ℕ). bit n 0) (sym (add-zero (x * 2))) ∙ bit-low x 0 (lit< tt)
+
+-- A mask changes a doubled word when it lacks the bit above some bit of the word.
+abbrev lacks : ℕ → ℕ → ℕ → Bool
+lacks w m j = bit w j && not (bit m (suc j))
+
+module _ (k w m : ℕ) (low : w < 2 ^ k) where
+  has-all : some k (lacks w m) ≡ false → (i : ℕ) → i < suc k → T (bit (w * 2) i) → T (bit m i)
+  has-all f zero l t = absurd (of-false (bit-even w) t)
+  has-all f (suc j) l t =
+      ⊎-elim of-true
+      (λ (e : bit m (suc j) ≡ false).
+      absurd
+      (of-false f
+      (some-intro k (lacks w m) j (le-of-suc-le-suc l)
+      (and-intro (bit w j) (not (bit m (suc j))) (rw bit-twice at t) (not-T (bit m (suc j)) (of-false e))))))
+      (either (bit m (suc j)))
+
+  changed : T (some k (lacks w m)) → bitAnd (w * 2) m ≡ w * 2 → ⊥
+  changed h e =
+      let r = some-elim k (lacks w m) h in
+      T-not (bit m (suc (r .at))) (and-right (bit w (r .at)) (not (bit m (suc (r .at)))) (r .holds))
+      (kept (w * 2) m (suc (r .at)) e (rw bit-twice (and-left (bit w (r .at)) (not (bit m (suc (r .at)))) (r .holds))))
+
+  pub lost-some : not (eqb (bitAnd (w * 2) m) (w * 2)) ≡ some k (λ (j : ℕ). bit w j && not (bit m (suc j)))
+  lost-some =
+      ⊎-elim (λ (t : some k (lacks w m) ≡ true). ap not (ne-eqb (bitAnd (w * 2) m) (w * 2) (changed (of-true t))) ∙ sym t)
+      (λ (f : some k (lacks w m) ≡ false).
+      ap not (eq-eqb (bitAnd (w * 2) m) (w * 2) (keeps (suc k) (w * 2) m (omega (arith, two-pow-succ k)) (has-all f))) ∙ sym f)
+      (either (some k (lacks w m)))

@@ -1,3 +1,6 @@
--- Laws of tests, quantifiers and bits, which the proofs of the crates above cite too.
+-- Laws of tests, bits and ranges, which the proofs of the crates above cite too.
 pub mod Tests
 pub mod Bits
+pub mod Ranges
+pub mod Wires
+pub mod Ones

@@ -1,11 +1,10 @@
 -- Laws of Boolean tests, and of `some` and `every`: what holds of each number below a bound. Assumes nothing.
-use Prim.Native.Nat.{ℕ, zero, suc, _<_, _≤_}
-use mathlib.Core.Path.{_≡_, refl, sym, ap, ap₂, subst, _∙_}
-use mathlib.Core.Bool.{Bool, true, false, not, _&&_, _||_}
+use Prim.Native.Nat.{ℕ, zero, suc, _<_}
+use mathlib.Core.Path.{_≡_, refl, sym, ap₂, subst}
+use mathlib.Core.Bool.{Bool, true, false, _&&_, _||_}
 use mathlib.Core.Logic.{_⊎_, inl, inr, ⊎-elim}
 use native.Mathlib.Nat.{le-of-suc-le-suc, not-suc-le-zero, eq-or-lt-of-le, le-refl, le-step}
-use native.Mathlib.Omega.{arith}
-use lib.Dec.{T, T-not, not-T}
+use lib.Dec.{T}
 use Rattle.bus.specs.Bits.{some, every}
 
 -- ---- tests

@@ -1,11 +1,80 @@
-// The declared range of a port and the value that its wires hold.
+// The declared range of a port, and the value that the port's wires hold.
+use super::mask::low_ones;
 ghost use mathlib.Core.Path.{_≡_};
-ghost use Prim.Native.Nat.{_≤_};
-ghost use Rattle.bus.specs.Range.{valueOf, Within};
+ghost use Prim.Native.Nat.{ℕ, suc, _+_, _-_, _≤_, _<_};
+ghost use lib.Dec.{T};
+ghost use Rattle.bus.specs.Bits.{bit, number};
+ghost use Rattle.bus.specs.Range.{width, within, valueOf};
 
 // The ends of a port's declaration, as in Verilog: the wire `left` is the most significant.
 #[repr(C)]
 pub struct Range {
     pub left: u8,
     pub right: u8,
+}
+
+impl Range {
+    // Whether both ends are wires of a 32-bit word.
+    pub fn within(self) -> bool
+        ensures { λ r. ⌜ r ≡ within self ⌝ }
+    {
+        self.left <= 31 && self.right <= 31
+    }
+
+    // How many wires the port has.
+    pub fn width(self) -> u32
+        ensures { λ r. ⌜ r ≡ width self ⌝ }
+    {
+        let left = self.left as u32;
+        let right = self.right as u32;
+        if right <= left {
+            left - right + 1
+        } else {
+            right - left + 1
+        }
+    }
+
+    // The same wires declared from the other end, so that the value's bits come in the other order.
+    pub fn turned(self) -> Range
+        ensures { λ r. ⌜ (r .left ≡ self .right) × (r .right ≡ self .left) ⌝ }
+    {
+        Range {
+            left: self.right,
+            right: self.left,
+        }
+    }
+
+    // The value of the port in a sample of 32 wires, for ends of at most 31.
+    pub fn value(self, wires: u32) -> u32
+        requires { ⌜ T (within self) ⌝ }
+        ensures { λ r. ⌜ r ≡ valueOf self wires ⌝ }
+    {
+        let left = self.left as u32;
+        let right = self.right as u32;
+        if right <= left {
+            descending(left, right, wires)
+        } else {
+            ascending(left, right, wires)
+        }
+    }
+}
+
+// The wires from `right` up to `left`, the wire `right` as bit 0.
+fn descending(left: u32, right: u32, wires: u32) -> u32
+    requires { ⌜ (right ≤ left) × (left ≤ 31) ⌝ }
+    ensures { λ r. ⌜ r ≡ number (suc (left - right)) (λ (k : ℕ). bit wires (right + k)) ⌝ }
+{
+    ((wires >> right) as u64 & low_ones(left - right + 1)) as u32
+}
+
+// The wires from `right` down to `left`, the wire `right` as bit 0.
+fn ascending(left: u32, right: u32, wires: u32) -> u32
+    requires { ⌜ (left < right) × (right ≤ 31) ⌝ }
+    ensures { λ r. ⌜ r ≡ number (suc (right - left)) (λ (k : ℕ). bit wires (right - k)) ⌝ }
+{
+    let mut v: u32 = 0;
+    for k in 0..right - left + 1 {
+        v += ((wires >> (right - k)) % 2) << k;
+    }
+    v
 }

@@ -1,2 +1,2 @@
-pub mod Accepted
-pub mod Claims
+-- The answers of the calls.
+pub mod Answers

@@ -1,6 +1,8 @@
-// The checkers: their configuration, the rules, and one step.
-mod config;
-mod frame;
+// What the viewer calls on one checker: a step by value, and the open count.
+mod count;
+mod monitor;
 
-pub use config::Config;
-pub use frame::Frame;
+pub use count::OpenCount;
+pub use count::open_count;
+pub use monitor::Monitor;
+pub use monitor::Stepped;

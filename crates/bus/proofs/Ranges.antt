@@ -1,0 +1,81 @@
+-- Laws of declared ranges. Assumes nothing.
+use Prim.Native.Nat.{ℕ, suc, _+_, _-_, _≤_, _<_}
+use mathlib.Core.Path.{_≡_, refl, sym, ap, _∙_}
+use mathlib.Core.Bool.{Bool, true, false, cond}
+use mathlib.Core.Logic.{⊎-elim}
+use native.Mathlib.Omega.{arith}
+use borrow.Author.Tests.{le-leb, lt-leb, leb-true, leb-false}
+use lib.Dec.{T, leb, leb→le, le→leb}
+use Rattle.bus.specs.Bits.{bit, number}
+use Rattle.bus.specs.Range.{width, within, wireOf, valueOf}
+use Rattle.bus.specs.declared.range.Range.{Range}
+use Rattle.bus.proofs.Bits.{number-ext, bit-number}
+use Rattle.bus.proofs.Tests.{and-intro, and-left, and-right, either}
+
+pub left-low : (r : Range) → T (within r) → r .left ≤ 31
+unfolding within
+left-low r h = leb→le (r .left) 31 (and-left (leb (r .left) 31) (leb (r .right) 31) h)
+
+pub right-low : (r : Range) → T (within r) → r .right ≤ 31
+unfolding within
+right-low r h = leb→le (r .right) 31 (and-right (leb (r .left) 31) (leb (r .right) 31) h)
+
+-- the value of a range that is declared downwards, and of one that is declared upwards
+pub value-descending : (r : Range) (wires : ℕ) → r .right ≤ r .left
+    → valueOf r wires ≡ number (suc (r .left - r .right)) (λ (k : ℕ). bit wires (r .right + k))
+unfolding valueOf width wireOf
+value-descending r wires h = simp (le-leb _ _ h)
+
+pub value-ascending : (r : Range) (wires : ℕ) → r .left < r .right
+    → valueOf r wires ≡ number (suc (r .right - r .left)) (λ (k : ℕ). bit wires (r .right - k))
+unfolding valueOf width wireOf
+value-ascending r wires h = simp (lt-leb _ _ h)
+
+-- a port has at most 32 wires
+pub width-le : (r : Range) → T (within r) → width r ≤ 32
+unfolding width
+width-le r h =
+    ⊎-elim (λ (e : leb (r .right) (r .left) ≡ true). simp e (omega (arith, left-low r h)))
+    (λ (e : leb (r .right) (r .left) ≡ false). simp e (omega (arith, right-low r h))) (either (leb (r .right) (r .left)))
+
+-- Declared from the other end, the port is as wide, and its bits come in the other order.
+module _ (r r′ : Range) (p : r′ .left ≡ r .right) (q : r′ .right ≡ r .left) where
+  pub turned-within : T (within r) → T (within r′)
+  unfolding within
+  turned-within h =
+      and-intro (leb (r′ .left) 31) (leb (r′ .right) 31) (le→leb (r′ .left) 31 (omega (arith, right-low r h)))
+      (le→leb (r′ .right) 31 (omega (arith, left-low r h)))
+
+  turned-width : width r′ ≡ width r
+  unfolding width
+  turned-width = by (leb (r .right) (r .left)) (leb (r′ .right) (r′ .left)) refl refl
+    where
+      by : (b b′ : Bool) → leb (r .right) (r .left) ≡ b → leb (r′ .right) (r′ .left) ≡ b′
+          → suc (cond b′ (r′ .left - r′ .right) (r′ .right - r′ .left)) ≡ suc (cond b (r .left - r .right) (r .right - r .left))
+      by true true e f = omega (arith, leb-true (r .right) (r .left) e, leb-true (r′ .right) (r′ .left) f)
+      by true false e f = omega (arith, leb-true (r .right) (r .left) e, leb-false (r′ .right) (r′ .left) f)
+      by false true e f = omega (arith, leb-false (r .right) (r .left) e, leb-true (r′ .right) (r′ .left) f)
+      by false false e f = omega (arith, leb-false (r .right) (r .left) e, leb-false (r′ .right) (r′ .left) f)
+
+  turned-wire : (i : ℕ) → i < width r → wireOf r′ i ≡ wireOf r (width r - 1 - i)
+  unfolding width wireOf
+  turned-wire i = by (leb (r .right) (r .left)) (leb (r′ .right) (r′ .left)) refl refl
+    where
+      by : (b b′ : Bool) → leb (r .right) (r .left) ≡ b → leb (r′ .right) (r′ .left) ≡ b′
+          → i < suc (cond b (r .left - r .right) (r .right - r .left))
+          → cond b′ (r′ .right + i) (r′ .right - i)
+          ≡ cond b (r .right + (suc (cond b (r .left - r .right) (r .right - r .left)) - 1 - i))
+          (r .right - (suc (cond b (r .left - r .right) (r .right - r .left)) - 1 - i))
+      by true true e f l = omega (arith, leb-true (r .right) (r .left) e, leb-true (r′ .right) (r′ .left) f)
+      by true false e f l = omega (arith, leb-true (r .right) (r .left) e, leb-false (r′ .right) (r′ .left) f)
+      by false true e f l = omega (arith, leb-false (r .right) (r .left) e, leb-true (r′ .right) (r′ .left) f)
+      by false false e f l = omega (arith, leb-false (r .right) (r .left) e, leb-false (r′ .right) (r′ .left) f)
+
+  pub value-turned : (wires : ℕ) → valueOf r′ wires ≡ number (width r) (λ (i : ℕ). bit (valueOf r wires) (width r - 1 - i))
+  unfolding valueOf
+  value-turned wires =
+      ap (λ (k : ℕ). number k (λ (i : ℕ). bit wires (wireOf r′ i))) turned-width
+      ∙ number-ext (width r) (λ (i : ℕ). bit wires (wireOf r′ i)) (λ (i : ℕ). bit (valueOf r wires) (width r - 1 - i))
+      (λ i l.
+      ap (bit wires) (turned-wire i l)
+      ∙ sym (bit-number (width r) (λ (k : ℕ). bit wires (wireOf r k)) (width r - 1 - i) (omega arith)))

@@ -1,0 +1,11 @@
+// Words of given bits.
+ghost use mathlib.Core.Path.{_≡_};
+ghost use Prim.Native.Nat.{_-_, _^_, _<_};
+
+// The word whose k lowest bits are 1.
+pub fn low_ones(k: u32) -> u64
+    requires { ⌜ k < 64 ⌝ }
+    ensures { λ r. ⌜ r ≡ 2 ^ k - 1 ⌝ }
+{
+    (1u64 << k) - 1
+}

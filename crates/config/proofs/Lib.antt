@@ -1,0 +1,2 @@
+-- What the refusal number of a configuration and a word says of them.
+pub mod Refusals

@@ -1,0 +1,70 @@
+// The refusal of a configuration.
+use bus::Range;
+use rules::Config;
+ghost use mathlib.Core.Path.{_≡_};
+ghost use Rattle.rules.specs.Config.{limits, unused, widths, ports, configRefusal};
+
+// 0 for a configuration that is accepted, else 1, 2 or 3.
+pub fn config_refusal(c: Config) -> u32
+    ensures { λ r. ⌜ r ≡ configRefusal c ⌝ }
+{
+    if 6 < c.kind {
+        return 1;
+    }
+    if !within_limits(c) {
+        return 2;
+    }
+    if !ports_fit(c) {
+        return 3;
+    }
+    0
+}
+
+// Whether n is inside the limits of the kind.
+fn within_limits(c: Config) -> bool
+    ensures { λ r. ⌜ r ≡ limits c ⌝ }
+{
+    let kind = c.kind;
+    let n = c.n;
+    match kind {
+        0..=2 => (2 <= n) & (n <= 32),
+        3..=5 => (1 <= n) & (n <= 1024),
+        6 => n == 0,
+        7..=255 => false,
+    }
+}
+
+// Whether a port's declaration is 0:0, as that of an unused port must be.
+fn is_unused(range: Range) -> bool
+    ensures { λ r. ⌜ r ≡ unused range ⌝ }
+{
+    (range.left == 0) & (range.right == 0)
+}
+
+// Whether the ports have the widths that the kind asks for, and those that it does not use are 0:0.
+fn widths_fit(c: Config) -> bool
+    ensures { λ r. ⌜ r ≡ widths c ⌝ }
+{
+    let kind = c.kind;
+    let n = c.n;
+    let p = c.p;
+    let q = c.q;
+    let r = c.r;
+    let width = p.width();
+    match kind {
+        0..=2 => (width == n) & (is_unused(q) & is_unused(r)),
+        3..=5 => (width == 1) & ((q.width() == 1) & is_unused(r)),
+        6 => (q.width() == width) & (r.width() == width),
+        7..=255 => false,
+    }
+}
+
+// Whether no index is above 31, and the widths fit.
+fn ports_fit(c: Config) -> bool
+    ensures { λ r. ⌜ r ≡ ports c ⌝ }
+{
+    let p = c.p;
+    let q = c.q;
+    let r = c.r;
+    (p.within() & (q.within() & r.within())) & widths_fit(c)
+}

@@ -1,0 +1,80 @@
+// One step of kinds 0 to 2, on all attempts at once: bit j of the open word is the attempt that started j cycles ago.
+use super::marks::row_of;
+use super::marks::to_bit;
+use super::one_step::Outcome;
+use bus::low_ones;
+use rules::Config;
+use rules::Frame;
+ghost use mathlib.Core.Path.{_≡_};
+ghost use mathlib.Core.Bool.{not, _&&_, cond};
+ghost use Prim.Native.Nat.{ℕ, suc, _+_, _-_, _*_, _^_, _≤_, _<_};
+ghost use lib.Dec.{T};
+ghost use Rattle.bus.specs.Bits.{toBit, bit, some, number};
+ghost use Rattle.rules.specs.Config.{Good, family};
+ghost use Rattle.rules.specs.Config.Family.{sequence};
+ghost use Rattle.rules.specs.Frame.{P};
+ghost use Rattle.rules.specs.Possible.{possible};
+ghost use Rattle.rules.specs.Step.{StepsTo};
+
+pub fn sequence_step(c: Config, word: u64, frame: Frame) -> Outcome
+    requires { ⌜ (Good c) × (family (c .kind) ≡ sequence) × (T (possible c word)) ⌝ }
+    ensures { λ r. ⌜ StepsTo sequence c word frame (r .row) (r .word) ⌝ }
+{
+    let n = c.n;
+    let most = c.kind == 0;
+    let events = events_in_order(c, frame);
+    let start = (events % 2 == 1) & !((c.kind == 2) & (word != 0));
+    let next = advanced(word, start, events, n);
+    let failure = fails(most, word, events, n);
+    let opened = opens(most, next, start, n);
+    Outcome {
+        row: row_of(failure, false, opened, false, false),
+        word: next,
+    }
+}
+
+// The event bits in the order in which an attempt meets them: bit i is the event that an attempt needs i cycles after its start.
+// That is the port's value with the declaration turned round.
+fn events_in_order(c: Config, frame: Frame) -> u64
+    requires { ⌜ (Good c) × (family (c .kind) ≡ sequence) ⌝ }
+    ensures { λ r. ⌜ r ≡ number (c .n) (λ (i : ℕ). bit (P c frame) (c .n - 1 - i)) ⌝ }
+{
+    let p = c.p;
+    p.turned().value(frame.samples[1]) as u64
+}
+
+// Every attempt one cycle older, with the new one, where it had its event. The oldest, which met its last event, drops out.
+fn advanced(word: u64, start: bool, events: u64, n: u32) -> u64
+    requires { ⌜ (word < 2 ^ 32) × (1 ≤ n) × (n ≤ 32) ⌝ }
+    ensures { λ r. ⌜ r ≡ number (n - 1) (λ (j : ℕ). bit (word * 2 + toBit start) j && bit events j) ⌝ }
+{
+    (word * 2 + to_bit(start) as u64) & events & low_ones(n - 1)
+}
+
+// Whether an attempt had not its event: of kind 0 the oldest alone.
+fn fails(most: bool, word: u64, events: u64, n: u32) -> bool
+    requires { ⌜ (2 ≤ n) × (n ≤ 32) × (word < 2 ^ (n - 1)) ⌝ }
+    ensures { λ r. ⌜ r ≡ cond most (bit word (n - 2) && not (bit events (n - 1))) (some (n - 1) (λ (j : ℕ). bit word j && not (bit events (suc j)))) ⌝ }
+{
+    if most {
+        bit_at(word, n - 2) & !bit_at(events, n - 1)
+    } else {
+        word * 2 & events != word * 2
+    }
+}
+
+// Whether mark 4 is set: for kind 0 an attempt has met all events but the last, else an attempt starts.
+fn opens(most: bool, next: u64, start: bool, n: u32) -> bool
+    requires { ⌜ (2 ≤ n) × (n ≤ 32) ⌝ }
+    ensures { λ r. ⌜ r ≡ cond most (bit next (n - 2)) start ⌝ }
+{
+    if most { bit_at(next, n - 2) } else { start }
+}
+
+// Whether bit k is 1.
+fn bit_at(x: u64, k: u32) -> bool
+    requires { ⌜ k < 64 ⌝ }
+    ensures { λ r. ⌜ r ≡ bit x k ⌝ }
+{
+    (x >> k) % 2 == 1
+}

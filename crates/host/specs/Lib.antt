@@ -1,0 +1,3 @@
+-- What the contracts of the C host's calls cite.
+pub mod Bytes
+pub mod Step

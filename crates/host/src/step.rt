@@ -1,0 +1,74 @@
+// One step for the C host.
+use super::bytes::load;
+use super::bytes::store;
+use bus::Range;
+use checker::Monitor;
+use config::config_refusal;
+use rules::Config;
+use rules::Frame;
+ghost use mathlib.Core.List.{[], _∷_};
+ghost use Rattle.host.specs.Step.{ByteStep};
+
+// One step of the checker on the frame of the four samples. The open word is in the eight lent bytes, least significant first: the next word is written
+// there. Answers 256 times the refusal number plus the row. Refusals 1, 2 and 3, then 5 for a slice that is not 8 bytes long, then 7; refused: the bytes
+// are as they were.
+#[no_mangle]
+pub extern "C" fn selvedgeon_step(
+    kind: u8,
+    n: u32,
+    p_left: u8,
+    p_right: u8,
+    q_left: u8,
+    q_right: u8,
+    r_left: u8,
+    r_right: u8,
+    reset: u32,
+    p: u32,
+    q: u32,
+    r: u32,
+    word: &mut [u8],
+) -> u32
+    ensures { λ answer. ⌜ ByteStep (record {
+      kind = kind;
+      n = n;
+      p = record { left = «p_left»; right = «p_right» };
+      q = record { left = «q_left»; right = «q_right» };
+      r = record { left = «r_left»; right = «r_right» };
+    }) (record { samples = reset ∷ p ∷ q ∷ r ∷ [] }) (now (word .entry)) (now (word .exit)) answer ⌝ }
+{
+    let config = Config {
+        kind,
+        n,
+        p: Range {
+            left: p_left,
+            right: p_right,
+        },
+        q: Range {
+            left: q_left,
+            right: q_right,
+        },
+        r: Range {
+            left: r_left,
+            right: r_right,
+        },
+    };
+    let refused = config_refusal(config);
+    if refused != 0 {
+        return 256 * refused;
+    }
+    if word.len() != 8 {
+        return 256 * 5;
+    }
+    let monitor = Monitor {
+        config,
+        word: load(word),
+    };
+    let stepped = monitor.step(Frame {
+        samples: [reset, p, q, r],
+    });
+    if stepped.refusal != 0 {
+        return 256 * stepped.refusal;
+    }
+    store(word, stepped.monitor.word);
+    stepped.row
+}

@@ -1,0 +1,17 @@
+-- Claim 1: the twelve cases of the whiteboard table follow from the rules' definitions, rows and words, by computation. Assumes nothing.
+use mathlib.Core.List.{map}
+use Rattle.rules.specs.Frame.{up}
+use Rattle.rules.specs.Rules.{row, word, rowOf, marksOf, openOf}
+use mathlib.Core.Path.{_≡_, refl}
+use Rattle.bus.specs.Bits.{bit, some, every, number}
+use Rattle.bus.specs.Range.{width, wireOf, valueOf}
+use Rattle.rules.specs.Config.{family}
+use Rattle.rules.specs.Checks.{accept, acceptedBefore, accepted, busy, fails}
+use Rattle.rules.specs.Sequence.{event, alive, attemptTested, sequenceChecks, mostSeen, attempts}
+use Rattle.rules.specs.Time.{windowPending, between, atLast, startSeen, testSeen, restarts, timeChecks, windowOpened, windowReset, illegalStart, windowClosed, cyclesLeft}
+use Rattle.rules.specs.Transition.{transitionChecks, stored}
+use Rattle.rules.specs.Whiteboard.{table, byRules}
+
+pub whiteboard : map byRules table ≡ table
+unfolding bit some every number width wireOf valueOf family up accept acceptedBefore accepted busy fails event alive sequenceChecks mostSeen attempts between atLast startSeen testSeen restarts timeChecks windowOpened windowReset illegalStart windowClosed cyclesLeft transitionChecks stored rowOf marksOf openOf row word attemptTested windowPending
+whiteboard = refl

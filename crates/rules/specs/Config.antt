@@ -1,0 +1,56 @@
+-- A checker's configuration and when it is refused, from document 01, "Seven checkers" and "Refusal numbers". Assumes nothing.
+use Prim.Native.Nat.{ℕ}
+use mathlib.Core.Path.{_≡_}
+use mathlib.Core.Bool.{Bool, true, false, _&&_, cond}
+use lib.Dec.{leb, eqb}
+use Rattle.bus.specs.Range.{width, within}
+use Rattle.bus.specs.declared.range.Range.{Range}
+use Rattle.rules.specs.declared.config.Config.{Config}
+
+-- "Kind numbers 0 to 2 are cycle sequence […] 3 to 5 are time […] 6 is transition. 7 to 255 are refused."
+pub data Family : Type 0 where
+  sequence time transition none : Family
+
+abbrev pub pick : {A : Type 0} → Bool → A → A → A
+pick true a b = a
+pick false a b = b
+
+unfoldable pub family : ℕ → Family
+family kind = pick (leb kind 2) sequence (pick (leb kind 5) time (pick (leb kind 6) transition none))
+
+-- "n = num_cks": 2 to 32, 1 to 1,024, must be 0
+unfoldable pub limitsOf : Family → ℕ → Bool
+limitsOf sequence n = leb 2 n && leb n 32
+limitsOf time n = leb 1 n && leb n 1024
+limitsOf transition n = eqb n 0
+limitsOf none n = false
+
+-- "An unused port must be 0:0."
+unfoldable pub unused : Range → Bool
+unused r = eqb (r .left) 0 && eqb (r .right) 0
+
+-- the widths of the ports that a family uses, and that it does not use the others: "P events, width n"; "P start, Q test, width 1 each";
+-- "P test, Q start state, R next state, equal width"
+unfoldable pub widthsOf : Family → Config → Bool
+widthsOf sequence c = eqb (width (c .p)) (c .n) && (unused (c .q) && unused (c .r))
+widthsOf time c = eqb (width (c .p)) 1 && (eqb (width (c .q)) 1 && unused (c .r))
+widthsOf transition c = eqb (width (c .q)) (width (c .p)) && eqb (width (c .r)) (width (c .p))
+widthsOf none c = false
+
+unfoldable pub widths : Config → Bool
+widths c = widthsOf (family (c .kind)) c
+
+unfoldable pub limits : Config → Bool
+limits c = limitsOf (family (c .kind)) (c .n)
+
+-- no index above 31, the right widths, and unused ports 0:0
+unfoldable pub ports : Config → Bool
+ports c = (within (c .p) && (within (c .q) && within (c .r))) && widths c
+
+-- "1: kind above 6. 2: n outside its limits. 3: index above 31, wrong width, or unused port not 0:0." Tested "by number".
+unfoldable pub configRefusal : Config → ℕ
+configRefusal c = cond (leb (c .kind) 6) (cond (limits c) (cond (ports c) 0 3) 2) 1
+
+-- a configuration that no call refuses
+abbrev pub Good : Config → Type 0
+Good c = configRefusal c ≡ 0

@@ -1,0 +1,45 @@
+-- Which open words are possible, the refusal of another to go on from, and how many checks one says are unfinished, from document 01. Assumes nothing.
+use Prim.Native.Nat.{ℕ, _-_, _^_, _<_}
+use mathlib.Core.Path.{_≡_}
+use mathlib.Core.Bool.{Bool, false, not, _&&_, _||_, cond}
+use lib.Dec.{leb, ltb, eqb}
+use lib.Count.{ones}
+use Rattle.bus.specs.Range.{width}
+use Rattle.rules.specs.declared.config.Config.{Config}
+use Rattle.rules.specs.Config.{Family, family, configRefusal}
+use Rattle.rules.specs.Config.Family.{sequence, time, transition, none}
+use Rattle.rules.specs.Frame.{Trace, Proper}
+use Rattle.rules.specs.Rules.{word}
+
+-- "A word is possible when: kinds 0 and 1, below 2^(n−1); kind 2, also at most one bit set; kinds 3 to 5, at most n; kind 6, 0 or 2^32 plus a value
+-- that fits the width."
+unfoldable pub possibleOf : Family → Config → ℕ → Bool
+possibleOf sequence c w = ltb w (2 ^ (c .n - 1)) && (not (eqb (c .kind) 2) || leb (ones w) 1)
+possibleOf time c w = leb w (c .n)
+possibleOf transition c w = eqb w 0 || (leb (2 ^ 32) w && ltb (w - 2 ^ 32) (2 ^ width (c .p)))
+possibleOf none c w = false
+
+unfoldable pub possible : Config → ℕ → Bool
+possible c w = possibleOf (family (c .kind)) c w
+
+-- "7: the word to go on from is not possible"; tested "by number", so after 1 to 3
+unfoldable pub wordRefusal : Config → ℕ → ℕ
+wordRefusal c w = cond (eqb (configRefusal c) 0) (cond (possible c w) 0 7) (configRefusal c)
+
+-- "Some trace leaves each such word": the word is the open word after some cycle of some trace of at most 65,536 frames
+pub record Left (c : Config) (w : ℕ) : Type 0 where
+  pub trace : Trace
+  pub cycle : ℕ
+  pub short : cycle < 65536
+  pub proper : (t : ℕ) → Proper (trace t)
+  pub leaves : word c trace cycle ≡ w
+
+-- "Open count of a possible word: the number of its ones for kinds 0 to 2, otherwise 1 when a check is unfinished, else 0."
+unfoldable pub openCountOf : Family → ℕ → ℕ
+openCountOf sequence w = ones w
+openCountOf time w = cond (eqb w 0) 0 1
+openCountOf transition w = cond (eqb w 0) 0 1
+openCountOf none w = 0
+
+unfoldable pub openCount : Config → ℕ → ℕ
+openCount c w = openCountOf (family (c .kind)) w

@@ -1,0 +1,68 @@
+-- The row and the open word of every cycle of a trace, from document 01, "Seven checkers". Assumes nothing.
+use Prim.Native.Nat.{ℕ, zero, suc, _+_, _*_}
+use mathlib.Core.Bool.{Bool, false, cond}
+use lib.Dec.{eqb}
+use Rattle.bus.specs.Bits.{toBit}
+use Rattle.rules.specs.declared.config.Config.{Config}
+use Rattle.rules.specs.Config.{Family, family}
+use Rattle.rules.specs.Config.Family.{sequence, time, transition, none}
+use Rattle.rules.specs.Frame.{Trace, up}
+use Rattle.rules.specs.Checks.{accepted, fails}
+use Rattle.rules.specs.Sequence.{sequenceChecks, mostSeen, attempts}
+use Rattle.rules.specs.Time.{timeChecks, windowOpened, windowReset, illegalStart, windowClosed, cyclesLeft}
+use Rattle.rules.specs.Transition.{transitionChecks, stored}
+
+-- "A row holds a cycle's marks, summed: 1 failure; 2 illegal start; 4 trigger, window opened, or start state seen; 8 window closed; 16 window reset."
+pub record Marks : Type 0 where
+  pub failure : Bool
+  pub illegal : Bool
+  pub opened : Bool
+  pub closed : Bool
+  pub restarted : Bool
+
+unfoldable pub rowOf : Marks → ℕ
+rowOf m = toBit (m .failure) + 2 * toBit (m .illegal) + 4 * toBit (m .opened) + 8 * toBit (m .closed) + 16 * toBit (m .restarted)
+
+-- The marks that a family's rules give for a cycle out of reset. Mark 1 in every family: some accepted start has its required check violated there.
+unfoldable pub marksOf : Family → Config → Trace → ℕ → Marks
+marksOf sequence c tr t = record {
+  failure = fails (sequenceChecks c tr) t;
+  illegal = false;
+  opened = cond (eqb (c .kind) 0) (mostSeen c tr t) (accepted (sequenceChecks c tr) t);
+  closed = false;
+  restarted = false;
+}
+marksOf time c tr t = record {
+  failure = fails (timeChecks c tr) t;
+  illegal = illegalStart c tr t;
+  opened = windowOpened c tr t;
+  closed = windowClosed c tr t;
+  restarted = windowReset c tr t;
+}
+marksOf transition c tr t = record {
+  failure = fails (transitionChecks c tr) t;
+  illegal = false;
+  opened = accepted (transitionChecks c tr) t;
+  closed = false;
+  restarted = false;
+}
+marksOf none c tr t = record { failure = false; illegal = false; opened = false; closed = false; restarted = false }
+
+-- "The open word says what is unfinished after a cycle."
+unfoldable pub openOf : Family → Config → Trace → ℕ → ℕ
+openOf sequence c tr t = attempts c tr t
+openOf time c tr t = cyclesLeft c tr t
+openOf transition c tr t = stored c tr t
+openOf none c tr t = 0
+
+-- "A cycle with reset_n 0 has row 0 and open word 0, and ends every check."
+unfoldable pub row : Config → Trace → ℕ → ℕ
+row c tr t = cond (up (tr t)) (rowOf (marksOf (family (c .kind)) c tr t)) 0
+
+unfoldable pub word : Config → Trace → ℕ → ℕ
+word c tr t = cond (up (tr t)) (openOf (family (c .kind)) c tr t) 0
+
+-- the open word before a cycle: "Before cycle 0 the word is 0."
+unfoldable pub wordBefore : Config → Trace → ℕ → ℕ
+wordBefore c tr zero = 0
+wordBefore c tr (suc t) = word c tr t

@@ -1,0 +1,64 @@
+-- Kinds 3 to 5, from document 01, "Time". Assumes nothing.
+use Prim.Native.Nat.{ℕ, zero, suc, _+_, _-_}
+use mathlib.Core.Bool.{Bool, not, _&&_, _||_, cond}
+use lib.Dec.{leb, ltb, eqb}
+use Rattle.bus.specs.Bits.{some, every}
+use Rattle.rules.specs.declared.config.Config.{Config}
+use Rattle.rules.specs.Frame.{Trace, up, P, Q}
+use Rattle.rules.specs.Checks.{Checks, accepted, busy}
+
+-- f holds in each cycle after s and before t
+unfoldable pub between : ℕ → ℕ → (ℕ → Bool) → Bool
+between s t f = every t (λ u. leb u s || f u)
+
+-- g at the last number below k at which f holds, and 0 where there is none
+unfoldable pub atLast : ℕ → (ℕ → Bool) → (ℕ → ℕ) → ℕ
+atLast zero f g = 0
+atLast (suc k) f g = cond (f k) (g k) (atLast k f g)
+
+module _ (c : Config) (tr : Trace) where
+  -- start is 1 in cycle t, which is out of reset
+  unfoldable pub startSeen : ℕ → Bool
+  startSeen t = up (tr t) && eqb (P c (tr t)) 1
+
+  -- test is 1 in cycle t
+  unfoldable pub testSeen : ℕ → Bool
+  testSeen t = eqb (Q c (tr t)) 1
+
+  -- kind 4, where a start while a check is pending begins the n cycles afresh
+  unfoldable pub restarts : ℕ → Bool
+  restarts t = eqb (c .kind) 4 && startSeen t
+
+  -- "It is pending in s+1 to s+n", unless a reset or a restart in between has ended it. A failure does not end it.
+  unfoldable pub windowPending : ℕ → ℕ → Bool
+  windowPending s t = ltb s t && leb t (s + c .n) && between s t (λ u. up (tr u) && not (restarts u))
+
+  -- "test 0 in such a cycle is a failure"; kind 4 at a new start "takes no test". "Start 1 while pending: kind 3 ignores it; kind 4 […] counts n cycles
+  -- afresh from there; kind 5 […] carries on."
+  unfoldable pub timeChecks : Checks
+  timeChecks = record {
+    starts = startSeen;
+    pending = windowPending;
+    violated = λ s t. up (tr t) && windowPending s t && not (testSeen t) && not (restarts t);
+    ignores = not (eqb (c .kind) 4);
+  }
+
+  -- "With nothing pending, start 1 at s opens a check (mark 4)"
+  unfoldable pub windowOpened : ℕ → Bool
+  windowOpened t = startSeen t && not (busy timeChecks t)
+
+  -- "Start 1 while pending: […] kind 4 sets mark 16 only"
+  unfoldable pub windowReset : ℕ → Bool
+  windowReset t = restarts t && busy timeChecks t
+
+  -- "kind 5 sets mark 2"
+  unfoldable pub illegalStart : ℕ → Bool
+  illegalStart t = eqb (c .kind) 5 && startSeen t && busy timeChecks t
+
+  -- "At s+n mark 8 is set, failed or not, and the check is over."
+  unfoldable pub windowClosed : ℕ → Bool
+  windowClosed t = not (restarts t) && some t (λ s. accepted timeChecks s && timeChecks .pending s t && eqb t (s + c .n))
+
+  -- "The open word is the number of pending cycles left." Of a check from s that is pending after t these are t+1 to s+n.
+  unfoldable pub cyclesLeft : ℕ → ℕ
+  cyclesLeft t = atLast (suc t) (λ s. accepted timeChecks s && timeChecks .pending s (suc t)) (λ s. s + c .n - t)

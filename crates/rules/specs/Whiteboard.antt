@@ -1,0 +1,120 @@
+-- The twelve cases of document 01, "Whiteboard table", with the rows and words that it shows. That the rules give these is
+-- `whiteboard` of `proofs/Cases.antt`. Assumes nothing.
+use Prim.Native.Nat.{ℕ, zero, suc}
+use mathlib.Core.List.{List, [], _∷_}
+use lib.ListN.{getD, length}
+use Rattle.bus.specs.declared.range.Range.{Range}
+use Rattle.rules.specs.declared.config.Config.{Config}
+use Rattle.rules.specs.Frame.{Trace}
+use Rattle.rules.specs.Rules.{row, word}
+
+-- a checker, and what is sampled at P, Q and R in each cycle: "Reset_n is 1."
+pub record Case : Type 0 where
+  pub config : Config
+  pub p : List ℕ
+  pub q : List ℕ
+  pub r : List ℕ
+
+abbrev pub traceOf : Case → Trace
+traceOf k t = record { samples = 1 ∷ getD (k .p) t 0 ∷ getD (k .q) t 0 ∷ getD (k .r) t 0 ∷ [] }
+
+-- f 0 to f (n − 1)
+abbrev pub tabFrom : ℕ → (ℕ → ℕ) → ℕ → List ℕ
+tabFrom zero f at = []
+tabFrom (suc n) f at = f at ∷ tabFrom n f (suc at)
+
+abbrev range : ℕ → ℕ → Range
+range left right = record { left = left; right = right }
+
+-- kinds 0 to 2: P alone; kinds 3 to 5: P and Q, one wire each
+abbrev pub sequenceCase : ℕ → ℕ → Range → List ℕ → Case
+sequenceCase kind n p samples = record {
+  config = record { kind = kind; n = n; p = p; q = range 0 0; r = range 0 0 };
+  p = samples;
+  q = [];
+  r = [];
+}
+
+abbrev pub timeCase : ℕ → ℕ → List ℕ → List ℕ → Case
+timeCase kind n starts tests = record {
+  config = record { kind = kind; n = n; p = range 0 0; q = range 0 0; r = range 0 0 };
+  p = starts;
+  q = tests;
+  r = [];
+}
+
+-- kind 6, all [2:0]
+abbrev pub transitionCase : List ℕ → List ℕ → List ℕ → Case
+transitionCase tests starts nexts = record {
+  config = record { kind = 6; n = 0; p = range 2 0; q = range 2 0; r = range 2 0 };
+  p = tests;
+  q = starts;
+  r = nexts;
+}
+
+abbrev A : List ℕ
+A = 8 ∷ 4 ∷ 10 ∷ 5 ∷ 2 ∷ 1 ∷ []
+
+abbrev D : List ℕ
+D = 4 ∷ 6 ∷ 5 ∷ 4 ∷ 4 ∷ 4 ∷ []
+
+-- G, H and I
+abbrev starts : List ℕ
+starts = 1 ∷ 0 ∷ 1 ∷ 0 ∷ 1 ∷ 0 ∷ []
+
+abbrev tests : List ℕ
+tests = 0 ∷ 1 ∷ 0 ∷ 1 ∷ 1 ∷ 1 ∷ []
+
+-- a case, and the rows and words that the table shows for it
+pub record Entry : Type 0 where
+  pub given : Case
+  pub rows : List ℕ
+  pub words : List ℕ
+
+abbrev caseA : Entry
+caseA = record { given = sequenceCase 1 4 (range 3 0) A; rows = 4 ∷ 0 ∷ 4 ∷ 0 ∷ 0 ∷ 0 ∷ []; words = 1 ∷ 2 ∷ 5 ∷ 2 ∷ 4 ∷ 0 ∷ [] }
+
+abbrev caseB : Entry
+caseB = record { given = sequenceCase 0 4 (range 3 0) A; rows = 0 ∷ 0 ∷ 4 ∷ 0 ∷ 4 ∷ 0 ∷ []; words = 1 ∷ 2 ∷ 5 ∷ 2 ∷ 4 ∷ 0 ∷ [] }
+
+abbrev caseC : Entry
+caseC = record { given = sequenceCase 1 4 (range 0 3) A; rows = 0 ∷ 0 ∷ 0 ∷ 4 ∷ 0 ∷ 5 ∷ []; words = 0 ∷ 0 ∷ 0 ∷ 1 ∷ 2 ∷ 1 ∷ [] }
+
+abbrev caseD : Entry
+caseD = record { given = sequenceCase 2 3 (range 2 0) D; rows = 4 ∷ 0 ∷ 0 ∷ 4 ∷ 1 ∷ 4 ∷ []; words = 1 ∷ 2 ∷ 0 ∷ 1 ∷ 0 ∷ 1 ∷ [] }
+
+abbrev caseE : Entry
+caseE = record { given = sequenceCase 1 3 (range 2 0) D; rows = 4 ∷ 4 ∷ 5 ∷ 5 ∷ 5 ∷ 5 ∷ []; words = 1 ∷ 3 ∷ 1 ∷ 1 ∷ 1 ∷ 1 ∷ [] }
+
+abbrev caseF : Entry
+caseF = record { given = sequenceCase 0 3 (range 2 0) (4 ∷ 6 ∷ 0 ∷ []); rows = 0 ∷ 4 ∷ 1 ∷ []; words = 1 ∷ 3 ∷ 0 ∷ [] }
+
+abbrev caseG : Entry
+caseG = record { given = timeCase 3 3 starts tests; rows = 4 ∷ 0 ∷ 1 ∷ 8 ∷ 4 ∷ 0 ∷ []; words = 3 ∷ 2 ∷ 1 ∷ 0 ∷ 3 ∷ 2 ∷ [] }
+
+abbrev caseH : Entry
+caseH = record { given = timeCase 4 3 starts tests; rows = 4 ∷ 0 ∷ 16 ∷ 0 ∷ 16 ∷ 0 ∷ []; words = 3 ∷ 2 ∷ 3 ∷ 2 ∷ 3 ∷ 2 ∷ [] }
+
+abbrev caseI : Entry
+caseI = record { given = timeCase 5 3 starts tests; rows = 4 ∷ 0 ∷ 3 ∷ 8 ∷ 4 ∷ 0 ∷ []; words = 3 ∷ 2 ∷ 1 ∷ 0 ∷ 3 ∷ 2 ∷ [] }
+
+abbrev caseJ : Entry
+caseJ = record { given = timeCase 3 1 (1 ∷ 1 ∷ 1 ∷ []) (1 ∷ 1 ∷ 0 ∷ []); rows = 4 ∷ 8 ∷ 4 ∷ []; words = 1 ∷ 0 ∷ 1 ∷ [] }
+
+abbrev caseK : Entry
+caseK = record { given = transitionCase (3 ∷ 4 ∷ 3 ∷ 0 ∷ 3 ∷ []) (3 ∷ 3 ∷ 3 ∷ 3 ∷ 3 ∷ []) (4 ∷ 4 ∷ 0 ∷ 4 ∷ 4 ∷ []); rows = 4 ∷ 0 ∷ 4 ∷ 0 ∷ 4 ∷ []; words = 4294967300 ∷ 0 ∷ 4294967296 ∷ 0 ∷ 4294967300 ∷ [] }
+
+abbrev caseL : Entry
+caseL = record { given = transitionCase (3 ∷ 3 ∷ []) (3 ∷ 3 ∷ []) (4 ∷ 4 ∷ []); rows = 4 ∷ 5 ∷ []; words = 4294967300 ∷ 4294967300 ∷ [] }
+
+-- the table
+abbrev pub table : List Entry
+table = caseA ∷ caseB ∷ caseC ∷ caseD ∷ caseE ∷ caseF ∷ caseG ∷ caseH ∷ caseI ∷ caseJ ∷ caseK ∷ caseL ∷ []
+
+-- the same case with the rows and words that the rules give
+abbrev pub byRules : Entry → Entry
+byRules e = record {
+  given = e .given;
+  rows = tabFrom (length (e .given .p)) (row (e .given .config) (traceOf (e .given))) 0;
+  words = tabFrom (length (e .given .p)) (word (e .given .config) (traceOf (e .given))) 0;
+}
