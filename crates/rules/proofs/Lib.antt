@@ -10,3 +10,4 @@ pub mod TimeWords
 pub mod TransitionRules
 pub mod TransitionWords
 pub mod Claims
+pub mod Reached

@@ -41,7 +41,7 @@ module _ (c : Config) (w : ℕ) where
       (⊎-elim (λ (e : eqb (c .kind) 2 ≡ true). or-right (not (eqb (c .kind) 2)) (leb (ones w) 1) (le→leb (ones w) 1 (h e)))
       (λ (e : eqb (c .kind) 2 ≡ false). rw e tt) (either (eqb (c .kind) 2)))
 
-  possible-lt : T (possibleOf sequence c w) → w < 2 ^ (c .n - 1)
+  pub possible-lt : T (possibleOf sequence c w) → w < 2 ^ (c .n - 1)
   unfolding possibleOf
   possible-lt h = ltb→lt w (2 ^ (c .n - 1)) (and-left (ltb w (2 ^ (c .n - 1))) (not (eqb (c .kind) 2) || leb (ones w) 1) h)
 

@@ -1,0 +1,52 @@
+// A caller of full check and recheck: checks a trace, changes one cycle of it and rechecks. Its proof uses the contracts of the calls alone.
+use record::RecheckResult;
+use record::full_check;
+use record::recheck;
+use rules::Config;
+use rules::Frame;
+ghost use Prim.Native.Nat.{_<_};
+ghost use Rattle.record.specs.Traces.{frames};
+ghost use Rattle.edited.specs.Edits.{Stored, Replaced};
+
+// The frame of cycle t becomes the given one.
+fn store_frame(trace: &mut [u32], t: usize, frame: Frame)
+    requires { ⌜ t < frames (now trace) ⌝ }
+    ensures { λ _. ⌜ Stored (now (trace .entry)) (now (trace .exit)) t frame ⌝ }
+{
+    let i = 4 * t;
+    trace[i] = frame.samples[0];
+    trace[i + 1] = frame.samples[1];
+    trace[i + 2] = frame.samples[2];
+    trace[i + 3] = frame.samples[3];
+}
+
+// Fills the record of the trace, replaces the frame of cycle t, and rechecks that cycle. Where the trace is refused or has no such cycle, the answer is the
+// refusal number of the full check or 6, and the trace is as it was.
+pub fn replace_frame(
+    c: Config,
+    trace: &mut [u32],
+    rows: &mut [u32],
+    words: &mut [u64],
+    t: usize,
+    frame: Frame,
+) -> RecheckResult
+    ensures { λ r. ⌜ Replaced c (now (trace .entry)) (now (rows .entry)) (now (words .entry)) t frame (now (trace .exit)) (now (rows .exit)) (now (words .exit)) (r .refusal) (r .end) (r .changes) ⌝ }
+{
+    let refused = full_check(c, trace, rows, words);
+    if refused != 0 {
+        return RecheckResult {
+            refusal: refused,
+            end: 0,
+            changes: [0; 5],
+        };
+    }
+    if rows.len() <= t {
+        return RecheckResult {
+            refusal: 6,
+            end: 0,
+            changes: [0; 5],
+        };
+    }
+    store_frame(trace, t, frame);
+    recheck(c, trace, rows, words, t, t + 1)
+}

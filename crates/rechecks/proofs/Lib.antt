@@ -1,0 +1,2 @@
+-- Laws of signed numbers for writing them.
+pub mod Negative

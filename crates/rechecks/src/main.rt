@@ -1,0 +1,18 @@
+// The two recheck examples below the whiteboard table, the limits in the last lines of "Refusal numbers", a false record, and changes at both ends of
+// their range.
+mod large;
+mod small;
+mod text;
+
+fn main() {
+    small::sequence_example();
+    small::time_example();
+    small::false_record();
+    small::limits_of_n();
+    small::empty_trace();
+    large::at_the_limit();
+    large::above_the_limit();
+    large::too_many_rows();
+    large::all_marks_gone();
+    large::all_starts_seen();
+}

@@ -1,0 +1,39 @@
+-- `record::check::full_check` meets its contract: what is not refused is what `fill` takes, and a refusal comes before any store. Assumes nothing.
+use mathlib.Core.Path.{refl, sym, _∙_}
+use denote.Ref.{now}
+use Rattle.record.proofs.Refusals.{check-accepted, not-checked, checked}
+use borrow.Author.Needs.{needs}
+use Rattle.record.proofs.check.full_check.Statement.{statement}
+use Rattle.record.proofs.check.full_check.Tie as tie
+
+lengths-refusal-requires : tie.Need-lengths-refusal-requires
+lengths-refusal-requires c κs = search needs
+
+returns : tie.Need-returns
+returns c =
+    let a = c .before .before .before .before .before .args in
+    not-checked (a .c) (now (a .trace)) (now (a .rows)) (now (a .words)) (c .before .lengths-refusal .result)
+    (c .before .lengths-refusal .ensures (now (a .trace)) (now (a .rows)) (now (a .words)) refl refl refl) (c .if1 .taken)
+
+fill-requires : tie.Need-fill-requires
+fill-requires c κs =
+    let a = c .before .before .before .before .before .before .before .args in
+    let ok = check-accepted (a .c) (now (a .trace)) (now (a .rows)) (now (a .words)) (sym (c .before .before .before .lengths-refusal .ensures (now (a .trace)) (now (a .rows)) (now (a .words)) refl refl refl) ∙ c .before .before .if1 .left) in
+    (ok .good, ok .rows-length, ok .words-length)
+
+same-length : tie.Need-same-length
+same-length c = search needs
+
+same-length-2 : tie.Need-same-length-2
+same-length-2 c = search needs
+
+returns-2 : tie.Need-returns-2
+returns-2 c =
+    let a = c .before .before .before .before .before .before .before .before .before .before .before .before .args in
+    checked (a .c) (now (a .trace)) (now (a .rows)) (now (a .words)) _ _
+    (sym (c .before .before .before .before .before .before .before .before .lengths-refusal .ensures (now (a .trace)) (now (a .rows)) (now (a .words)) refl refl refl) ∙ c .before .before .before .before .before .before .before .if1 .left) (c .before .before .before .before .fill .ensures)
+
+pub full-check-spec : {M : Type 1} → statement M
+full-check-spec =
+    tie.close
+    (tie.spec lengths-refusal-requires returns fill-requires same-length same-length-2 returns-2)

@@ -1,0 +1,21 @@
+-- A lent trace as frames, from document 01, "Wires, buses and frames" and "Refusal numbers". Assumes nothing.
+use Prim.Native.Nat.{ℕ, _+_, _*_, _/_, _%_}
+use mathlib.Core.Bool.{Bool, _&&_}
+use mathlib.Core.List.{List, [], _∷_}
+use lib.Dec.{eqb, leb}
+use lib.ListN.{length, getD}
+use Rattle.rules.specs.declared.frame.Frame.{Frame}
+
+-- "A trace is a lent slice of N frames, 4N words"
+unfoldable pub frames : List ℕ → ℕ
+frames trace = length trace / 4
+
+-- the frame of cycle t: "reset, P, Q, R"
+unfoldable pub frameAt : List ℕ → ℕ → Frame
+frameAt trace t = record {
+  samples = getD trace (4 * t) 0 ∷ getD trace (4 * t + 1) 0 ∷ getD trace (4 * t + 2) 0 ∷ getD trace (4 * t + 3) 0 ∷ [];
+}
+
+-- "4: trace not a multiple of 4 words, or N above 65,536". Whether the trace is accepted.
+unfoldable pub traceFits : List ℕ → Bool
+traceFits trace = eqb (length trace % 4) 0 && leb (frames trace) 65536

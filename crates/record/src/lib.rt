@@ -1,0 +1,13 @@
+// A trace's record: full check, recheck after an edit, and totals.
+mod check;
+mod edit;
+mod tally;
+mod total;
+mod trace;
+
+pub use check::full_check;
+pub use edit::RecheckResult;
+pub use edit::recheck;
+pub use total::MarkTotals;
+pub use total::totals;
+pub use trace::frame_at;

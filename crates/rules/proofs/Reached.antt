@@ -1,0 +1,52 @@
+-- The word before any cycle is possible: it is 0, which a cycle in reset leaves, or the word after the cycle before. And a step from a possible word
+-- leaves a possible word. Some trace leaves the word after a cycle t. The trace with the same frames up to t, and the step's frame from then on, leaves
+-- the same word after t, since a word depends on no later frame. So after cycle t + 1 it leaves the step's word, and the words that traces leave are
+-- possible. Assumes nothing.
+use Prim.Native.Nat.{ℕ, zero, suc, _<_}
+use mathlib.Core.Path.{_≡_, refl, sym, ap₂, _∙_}
+use mathlib.Core.Bool.{cond}
+use mathlib.Core.List.{[]}
+use native.Mathlib.Nat.{le-refl, le-step}
+use borrow.Author.Tests.{lt-ltb, le-ltb}
+use lib.Dec.{T, ltb}
+use Rattle.bus.specs.Bits.{bit}
+use Rattle.rules.specs.declared.config.Config.{Config}
+use Rattle.rules.specs.declared.frame.Frame.{Frame}
+use Rattle.rules.specs.Config.{Good}
+use Rattle.rules.specs.Frame.{Trace, up}
+use Rattle.rules.specs.Rules.{word, wordBefore}
+use Rattle.rules.specs.Step.{stepWord}
+use Rattle.rules.specs.Possible.{possible}
+use Rattle.rules.proofs.Claims.{step-is-rules, step-after, words-possible, possible-left}
+
+pub zero-possible : (c : Config) → Good c → T (possible c 0)
+unfolding word up bit
+zero-possible c good = words-possible c good (λ _. record { samples = [] }) 0
+
+pub before-possible : (c : Config) → Good c → (tr : Trace) (t : ℕ) → T (possible c (wordBefore c tr t))
+unfolding wordBefore
+before-possible c good tr zero = zero-possible c good
+before-possible c good tr (suc t) = words-possible c good tr t
+
+-- the word before a cycle depends on the frames before it alone
+same-before : (c : Config) → Good c → (tr tr′ : Trace) (t : ℕ) → ((s : ℕ) → s < t → tr s ≡ tr′ s) → wordBefore c tr t ≡ wordBefore c tr′ t
+unfolding wordBefore
+same-before c good tr tr′ zero h = refl
+same-before c good tr tr′ (suc t) h =
+    step-is-rules c good tr t .word-is ∙ ap₂ (stepWord c) (same-before c good tr tr′ t (λ s l. h s (le-step l))) (h t (le-refl (suc t)))
+    ∙ sym (step-is-rules c good tr′ t .word-is)
+
+-- the frames of tr before cycle t, and f from then on
+followed : Trace → ℕ → Frame → Trace
+followed tr t f s = cond (ltb s t) (tr s) f
+
+pub step-possible : (c : Config) → Good c → (w : ℕ) (f : Frame) → T (possible c w) → T (possible c (stepWord c w f))
+unfolding wordBefore followed
+step-possible c good w f h =
+    let l = possible-left c good w h in
+    let n : ℕ = suc (l .cycle) in
+    let tr : Trace = followed (l .trace) n f in
+    let left : word c tr (l .cycle) ≡ w = same-before c good tr (l .trace) n (λ s b. rw (lt-ltb s n b)) ∙ l .leaves in
+    let here : tr n ≡ f = rw (le-ltb n n (le-refl n)) in
+    let leaves : word c tr n ≡ stepWord c w f = step-after c good w tr (l .cycle) left .word-is ∙ rw here in
+    rw leaves at (words-possible c good tr n)
