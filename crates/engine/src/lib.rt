@@ -9,3 +9,4 @@ mod transition;
 pub use marks::to_bit;
 pub use one_step::Outcome;
 pub use one_step::step;
+pub use sequence::events_in_order;

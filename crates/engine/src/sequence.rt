@@ -35,7 +35,7 @@ pub fn sequence_step(c: Config, word: u64, frame: Frame) -> Outcome
 
 // The event bits in the order in which an attempt meets them: bit i is the event that an attempt needs i cycles after its start.
 // That is the port's value with the declaration turned round.
-fn events_in_order(c: Config, frame: Frame) -> u64
+pub fn events_in_order(c: Config, frame: Frame) -> u64
     requires { ⌜ (Good c) × (family (c .kind) ≡ sequence) ⌝ }
     ensures { λ r. ⌜ r ≡ number (c .n) (λ (i : ℕ). bit (P c frame) (c .n - 1 - i)) ⌝ }
 {

@@ -11,3 +11,4 @@ pub use edit::recheck;
 pub use total::MarkTotals;
 pub use total::totals;
 pub use trace::frame_at;
+pub use trace::lengths_refusal;

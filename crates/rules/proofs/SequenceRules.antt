@@ -14,7 +14,7 @@ use lib.Dec.{T, ltb, eqb, ltb→lt, leb·zero, leb·suc-zero, leb·suc-suc}
 use borrow.Author.Tests.{lt-ltb, ltb-true, eq-eqb, ne-eqb, eqb-true, eqb-false}
 use Rattle.bus.specs.Bits.{bit, some, every, number}
 use Rattle.bus.proofs.Tests.{either, iff-eq, and-left, some-elim, some-intro, some-none, some-ext}
-use Rattle.bus.proofs.Bits.{number-ext, bit-number, number-some, number-none}
+use Rattle.bus.proofs.Bits.{number-ext, bit-number, bit-holds, number-some, number-none}
 use Rattle.rules.specs.declared.config.Config.{Config}
 use Rattle.rules.specs.Config.{family}
 use Rattle.rules.specs.Config.Family.{sequence}
@@ -129,6 +129,22 @@ module _ (c : Config) (tr : Trace) where
       ⊎-elim (λ (e : up (tr t) ≡ true). rw (word, e, f) (attempts-running t))
       (λ (e : up (tr t) ≡ false). rw (word, e) (sym (number-none (c .n - 1) (running (suc t)) (λ j l. running-down t e j))))
       (either (up (tr t)))
+
+  -- an accepted attempt from s is tested in t when the word before t has the bit of its age, and no bit is older than the trace
+  pub pending-bit : family (c .kind) ≡ sequence → (t s : ℕ) → s < t
+      → (accepted checks s && checks .pending s t) ≡ (ltb (t - s) (c .n) && bit (wordBefore c tr t) (t - suc s))
+  unfolding sequenceChecks attemptTested
+  pending-bit f t s l =
+      ⊎-elim
+      (λ (y : ltb (t - s) (c .n) ≡ true).
+      let low : t - suc s < c .n - 1 = omega (arith, ltb-true (t - s) (c .n) y) in
+      rw (before-running f t, bit-number (c .n - 1) (running t) (t - suc s) low, y)
+      (simp (y, and-true) at (same t s (t - suc s) (λ d. true) (omega arith) low)))
+      (λ (y : ltb (t - s) (c .n) ≡ false). rw y (and-false (accepted checks s)))
+      (either (ltb (t - s) (c .n)))
+
+  pub bit-young : family (c .kind) ≡ sequence → (t j : ℕ) → T (bit (wordBefore c tr t) j) → j < t
+  bit-young f t j h = young t j (bit-holds (c .n - 1) (running t) j (rw (before-running f t) at h))
 
   -- ---- the step, over the word of the running attempts
 

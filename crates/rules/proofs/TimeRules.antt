@@ -11,7 +11,7 @@ use native.Mathlib.Omega.{arith}
 use lib.Dec.{T, leb, ltb, eqb, leb→le, le→leb, ltb→lt, lt→ltb, eqb→eq}
 use borrow.Author.Tests.{lt-ltb, lt-leb, le-leb, eq-eqb}
 use Rattle.bus.specs.Bits.{some, every}
-use Rattle.bus.proofs.Tests.{is-true, of-true, of-false, iff-eq, and-left, and-right, or-left, some-intro, some-elim, every-intro}
+use Rattle.bus.proofs.Tests.{is-true, of-true, of-false, iff-eq, and-intro, and-left, and-right, or-left, some-intro, some-elim, every-intro}
 use Rattle.rules.specs.declared.config.Config.{Config}
 use Rattle.rules.specs.Config.{family}
 use Rattle.rules.specs.Config.Family.{time}
@@ -220,6 +220,25 @@ module _ (c : Config) (tr : Trace) where
           by : (b : Bool) → up (tr t) ≡ b → Window t (wordBefore c tr t) → Window (suc t) (cond b (openOf (family (c .kind)) c tr t) 0)
           by true u h = let g = step-window t (wordBefore c tr t) u h in rw (k, read t (left c (wordBefore c tr t) (tr t)) g) g
           by false u h = reset t u
+
+      -- the accepted check that is pending in t is the one whose start the count gives, and no count is older than the trace
+      pub pending-count : (t s : ℕ) → live t s ≡ (eqb (suc (s + c .n)) (wordBefore c tr t + t) && ltb 0 (wordBefore c tr t))
+      unfolding busy
+      pending-count t s =
+          let w = wordBefore c tr t in
+          let same = eqb (suc (s + c .n)) (w + t) in
+          iff-eq (live t s) (same && ltb 0 w)
+          (λ p.
+          let r = window t .counts s p in
+          and-intro same (ltb 0 w) (of-true (eq-eqb (suc (s + c .n)) (w + t) (omega arith))) (lt→ltb 0 w (omega (arith, live-range t s p .1))))
+          (λ o.
+          let r = some-elim t (live t) (window t .found (ltb→lt 0 w (and-right same (ltb 0 w) o))) in
+          let e : r .at ≡ s = omega (arith, window t .counts (r .at) (r .holds), eqb→eq (suc (s + c .n)) (w + t) (and-left same (ltb 0 w) o)) in
+          subst (λ (i : ℕ). T (live t i)) e (r .holds))
+
+      pub count-young : (t : ℕ) → 0 < wordBefore c tr t → c .n < wordBefore c tr t + t
+      unfolding busy
+      count-young t l = let r = some-elim t (live t) (window t .found l) in omega (arith, window t .counts (r .at) (r .holds))
 
       pub time-open : (t : ℕ) → up (tr t) ≡ true → openOf time c tr t ≡ stepOpenOf c (wordBefore c tr t) (tr t) time
       unfolding openOf stepOpenOf

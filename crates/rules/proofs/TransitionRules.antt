@@ -19,7 +19,7 @@ use Rattle.rules.specs.Step.{pends, stepMarksOf, stepOpenOf}
 use Rattle.rules.proofs.Accepted.{accepted-law}
 
 -- a value is stored, and the test differs from it
-value-fails : (a : Bool) (p r : ℕ) → (a && not (eqb p r)) ≡ (ltb 0 (cond a (2 ^ 32 + r) 0) && not (eqb p (cond a (2 ^ 32 + r) 0 - 2 ^ 32)))
+pub value-fails : (a : Bool) (p r : ℕ) → (a && not (eqb p r)) ≡ (ltb 0 (cond a (2 ^ 32 + r) 0) && not (eqb p (cond a (2 ^ 32 + r) 0 - 2 ^ 32)))
 value-fails true p r =
     let e : 2 ^ 32 + r - 2 ^ 32 ≡ r = omega arith in
     sym (ap₂ (λ (b : Bool) (n : ℕ). b && not (eqb p n)) (lt-ltb 0 (2 ^ 32 + r) (omega arith)) e)

@@ -1,0 +1,150 @@
+// Examples of a few cycles.
+use super::text;
+use bus::Range;
+use record::full_check;
+use record::recheck;
+use rules::Config;
+
+fn no_port() -> Range {
+    Range { left: 0, right: 0 }
+}
+
+// A checker whose ports are P [high:0] and Q and R [0:0].
+pub fn checker(kind: u8, n: u32, high: u8) -> Config {
+    Config {
+        kind,
+        n,
+        p: Range {
+            left: high,
+            right: 0,
+        },
+        q: no_port(),
+        r: no_port(),
+    }
+}
+
+// Case A with cycle 2 made 2.
+pub fn sequence_example() {
+    text::text(b"case A, cycle 2 made 2\n");
+    let c = checker(1, 4, 3);
+    let mut trace = [
+        1,
+        8,
+        0,
+        0,
+        1,
+        4,
+        0,
+        0,
+        1,
+        10,
+        0,
+        0,
+        1,
+        5,
+        0,
+        0,
+        1,
+        2,
+        0,
+        0,
+        1,
+        1,
+        0,
+        0,
+    ];
+    let mut rows = [0u32; 6];
+    let mut words = [0u64; 6];
+    full_check(c, &trace, &mut rows, &mut words);
+    text::numbers(b"rows", &rows);
+    text::words(&words);
+    trace[9] = 2;
+    text::answer(recheck(c, &trace, &mut rows, &mut words, 2, 3));
+    text::numbers(b"rows", &rows);
+    text::words(&words);
+}
+
+// Kind 3, n 2, start and test 1 in six cycles, then start 0 in cycle 0: the recheck runs to the end.
+pub fn time_example() {
+    text::text(b"kind 3, n 2, start 0 in cycle 0\n");
+    let c = checker(3, 2, 0);
+    let mut trace = [1u32; 24];
+    let mut rows = [0u32; 6];
+    let mut words = [0u64; 6];
+    full_check(c, &trace, &mut rows, &mut words);
+    text::numbers(b"rows", &rows);
+    text::words(&words);
+    trace[1] = 0;
+    text::answer(recheck(c, &trace, &mut rows, &mut words, 0, 1));
+    text::numbers(b"rows", &rows);
+    text::words(&words);
+}
+
+// Case A with a record that is not its own: the recheck goes on from the kept word 0 and stops where the kept word is its own.
+pub fn false_record() {
+    text::text(b"case A, false record\n");
+    let c = checker(1, 4, 3);
+    let trace = [
+        1,
+        8,
+        0,
+        0,
+        1,
+        4,
+        0,
+        0,
+        1,
+        10,
+        0,
+        0,
+        1,
+        5,
+        0,
+        0,
+        1,
+        2,
+        0,
+        0,
+        1,
+        1,
+        0,
+        0,
+    ];
+    let mut rows = [7, 7, 7, 7, 7, 7];
+    let mut words = [6, 0, 0, 2, 5, 6];
+    text::answer(recheck(c, &trace, &mut rows, &mut words, 2, 3));
+    text::numbers(b"rows", &rows);
+    text::words(&words);
+    text::text(b"word that is not possible\n");
+    words[1] = 8;
+    text::answer(recheck(c, &trace, &mut rows, &mut words, 2, 3));
+    text::numbers(b"rows", &rows);
+    text::words(&words);
+}
+
+// The refusal of a configuration with a trace of no cycles.
+fn refusal_of(c: Config) -> u64 {
+    let trace = [0u32; 0];
+    let mut rows = [0u32; 0];
+    let mut words = [0u64; 0];
+    full_check(c, &trace, &mut rows, &mut words) as u64
+}
+
+pub fn limits_of_n() {
+    text::line(b"kind 1, n 2:", refusal_of(checker(1, 2, 1)));
+    text::line(b"kind 1, n 32:", refusal_of(checker(1, 32, 31)));
+    text::line(b"kind 1, n 1:", refusal_of(checker(1, 1, 0)));
+    text::line(b"kind 1, n 33:", refusal_of(checker(1, 33, 32)));
+    text::line(b"kind 3, n 1:", refusal_of(checker(3, 1, 0)));
+    text::line(b"kind 3, n 1024:", refusal_of(checker(3, 1024, 0)));
+    text::line(b"kind 3, n 0:", refusal_of(checker(3, 0, 0)));
+    text::line(b"kind 3, n 1025:", refusal_of(checker(3, 1025, 0)));
+}
+
+pub fn empty_trace() {
+    text::text(b"a = b = N = 0\n");
+    let trace = [0u32; 0];
+    let mut rows = [0u32; 0];
+    let mut words = [0u64; 0];
+    text::answer(recheck(checker(3, 1, 0), &trace, &mut rows, &mut words, 0, 0));
+}

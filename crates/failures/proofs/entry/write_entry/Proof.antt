@@ -1,0 +1,72 @@
+-- `failures::entry::write_entry` meets its contract: three stores, one behind the other. Assumes nothing.
+use Prim.Native.Nat.{ℕ, _+_}
+use mathlib.Core.Path.{refl, ap₂}
+use native.Mathlib.Omega.{arith}
+use native.Mathlib.Numerals.{add-one, add-two}
+use lib.ListN.{set, length-set}
+use borrow.Author.Needs.{needs}
+use Rattle.failures.proofs.entry.write_entry.Statement.{statement}
+use Rattle.failures.proofs.entry.write_entry.Tie as tie
+use Rattle.failures.proofs.entry.write_entry.Reads as reads
+use Rattle.failures.proofs.entry.write_entry.Lts as lts
+
+cast-list : tie.Need-cast-list
+cast-list c = search needs
+
+mul-list : tie.Need-mul-list
+mul-list c = search needs
+
+slice-write-list : tie.Need-slice-write-list
+slice-write-list c = search needs
+
+add-list : tie.Need-add-list
+add-list c = search needs
+
+mul-list-2 : tie.Need-mul-list-2
+mul-list-2 c = search needs
+
+slice-write-list-2 : tie.Need-slice-write-list-2
+slice-write-list-2 c = let a = c .args in omega (arith, c .pre, length-set (a .list .now) (a .at) (a .t))
+
+cast-list-2 : tie.Need-cast-list-2
+cast-list-2 c = search needs
+
+add-list-2 : tie.Need-add-list-2
+add-list-2 c = search needs
+
+mul-list-3 : tie.Need-mul-list-3
+mul-list-3 c = search needs
+
+slice-write-list-3 : tie.Need-slice-write-list-3
+slice-write-list-3 c =
+    let a = c .args in
+    omega (arith, c .pre, length-set (set (a .list .now) (a .at) (a .t)) (a .at + 1) (a .mark), length-set (a .list .now) (a .at) (a .t))
+
+add-result : tie.Need-add-result
+add-result c = search needs
+
+same-length : tie.Need-same-length
+same-length c = search needs
+
+returns : tie.Need-returns
+returns c =
+    let a = c .args in
+    (refl, ap₂ (λ (i j : ℕ). set (set (set (a .list .now) (a .at) (a .t)) i (a .mark)) j (a .start)) (add-one (a .at)) (add-two (a .at)))
+
+pub write-entry-spec : {M : Type 1} → statement M
+write-entry-spec =
+    tie.close
+    (tie.spec
+    cast-list
+    mul-list
+    slice-write-list
+    add-list
+    mul-list-2
+    slice-write-list-2
+    cast-list-2
+    add-list-2
+    mul-list-3
+    slice-write-list-3
+    add-result
+    same-length
+    returns)

@@ -1,0 +1,73 @@
+-- `failures::entry::write_window` meets its contract: with one mark set the marks are the entry's mark, and with both there are two entries, of which the
+-- second stands behind the first. Assumes nothing.
+use mathlib.Core.Path.{ap}
+use native.Mathlib.Omega.{arith}
+use lib.ListN.{length}
+use Rattle.failures.specs.Lists.{wordsOf}
+use Rattle.failures.proofs.StepEntries.{one-entry, two-entries, room-behind, both-written}
+use borrow.Author.Needs.{needs}
+use Rattle.failures.proofs.entry.write_window.Statement.{statement}
+use Rattle.failures.proofs.entry.write_window.Tie as tie
+
+write-entry-requires : tie.Need-write-entry-requires
+write-entry-requires c κs =
+    let s = c .before .before .before in
+    let a = s .args in
+    let one = one-entry (a .marks) (a .t) (a .start) (s .pre .0) (omega (arith, s .pre .1, c .before .if1 .taken)) in
+    (s .pre .2, s .pre .3, omega (arith, s .pre .4, ap length one))
+
+same-length : tie.Need-same-length
+same-length c = search needs
+
+returns : tie.Need-returns
+unfolding wordsOf
+returns c =
+    let s = c .before .before .before .before .before .before in
+    let a = s .args in
+    let marked = c .before .before .before .before .if1 .taken in
+    rw (one-entry (a .marks) (a .t) (a .start) (s .pre .0) (omega (arith, s .pre .1, marked))) (c .before .before .write-entry .ensures)
+
+write-entry-requires-2 : tie.Need-write-entry-requires-2
+write-entry-requires-2 c κs =
+    let s = c .before .before .before in
+    let a = s .args in
+    let two = two-entries (a .marks) (a .t) (a .start) (c .before .if1 .left) in
+    (s .pre .2, s .pre .3, omega (arith, s .pre .4, ap length two))
+
+write-entry-requires-3 : tie.Need-write-entry-requires-3
+write-entry-requires-3 c κs =
+    let s = c .before .before .before .before .before .before .before in
+    let a = s .args in
+    let first = c .before .before .before .write-entry2 in
+    let two = two-entries (a .marks) (a .t) (a .start) (c .before .before .before .before .before .if1 .left) in (
+      s .pre .2,
+      s .pre .3,
+      room-behind (a .list .now) _ (a .at) (first .result) (a .t) (a .start) (first .ensures .0) (first .ensures .1)
+          (omega (arith, s .pre .4, ap length two)),
+    )
+
+same-length-2 : tie.Need-same-length-2
+same-length-2 c = search needs
+
+returns-2 : tie.Need-returns-2
+returns-2 c =
+    let s = c .before .before .before .before .before .before .before .before .before .before in
+    let a = s .args in
+    let first = c .before .before .before .before .before .before .write-entry2 in
+    let second = c .before .before .write-entry3 in
+    let both = c .before .before .before .before .before .before .before .before .if1 .left in
+    rw (two-entries (a .marks) (a .t) (a .start) both)
+    (both-written (a .list .now) _ (a .at) (first .result) (a .t) (a .start) (first .ensures .0) (first .ensures .1) _ (second .result)
+    (second .ensures .0) (second .ensures .1))
+
+pub write-window-spec : {M : Type 1} → statement M
+write-window-spec =
+    tie.close
+    (tie.spec
+    write-entry-requires
+    same-length
+    returns
+    write-entry-requires-2
+    write-entry-requires-3
+    same-length-2
+    returns-2)
