@@ -21,14 +21,6 @@ count-all-requires c κs =
     let tested = c .before .lengths-refusal in
     accepted-lengths (a .c) (now (a .trace)) (tested .result) (tested .ensures) (c .if1 .left)
 
-returns-2 : tie.Need-returns-2
-returns-2 c =
-    let a = c .before .before .before .before .before .before .args in
-    let tested = c .before .before .before .lengths-refusal in
-    let counted = c .before .count-all in
-    too-short (a .c) (now (a .trace)) (tested .result) (tested .ensures) (c .before .before .if1 .left) (now (a .list)) (counted .result) (counted .ensures)
-    (c .if2 .taken)
-
 write-all-requires : tie.Need-write-all-requires
 write-all-requires c κs =
     let a = c .before .before .before .before .before .before .before .args in
@@ -40,6 +32,14 @@ write-all-requires c κs =
       ok .1,
       all-fit (a .c) (now (a .trace)) (tested .result) (tested .ensures) accepted (now (a .list)) (counted .result) (counted .ensures) (c .before .if2 .left),
     )
+
+returns-2 : tie.Need-returns-2
+returns-2 c =
+    let a = c .before .before .before .before .before .before .args in
+    let tested = c .before .before .before .lengths-refusal in
+    let counted = c .before .count-all in
+    too-short (a .c) (now (a .trace)) (tested .result) (tested .ensures) (c .before .before .if1 .left) (now (a .list)) (counted .result) (counted .ensures)
+    (c .if2 .taken)
 
 same-length : tie.Need-same-length
 same-length c = search needs
