@@ -1,10 +1,11 @@
 -- Laws of Boolean tests, and of `some` and `every`: what holds of each number below a bound. Assumes nothing.
-use Prim.Native.Nat.{ℕ, zero, suc, _<_}
+use Prim.Native.Nat.{ℕ, zero, suc, _≤_, _<_}
 use mathlib.Core.Path.{_≡_, refl, sym, ap₂, subst}
-use mathlib.Core.Bool.{Bool, true, false, _&&_, _||_}
+use mathlib.Core.Bool.{Bool, true, false, not, _&&_, _||_}
 use mathlib.Core.Logic.{_⊎_, inl, inr, ⊎-elim}
 use native.Mathlib.Nat.{le-of-suc-le-suc, not-suc-le-zero, eq-or-lt-of-le, le-refl, le-step}
-use lib.Dec.{T}
+use lib.Dec.{T, ltb, ltb→lt, eqb}
+use borrow.Author.Tests.{ltb-false, eqb-true, eqb-false, not-true, not-false}
 use Rattle.bus.specs.Bits.{some, every}
 
 -- ---- tests
@@ -58,6 +59,27 @@ or-right false b h = h
 pub or-cases : (a b : Bool) → T (a || b) → T a ⊎ T b
 or-cases true b h = inl tt
 or-cases false b h = inr h
+
+-- a loop's test that starts with a bound
+pub bound-true : (t n : ℕ) (rest : Bool) → (ltb t n && rest) ≡ true → t < n
+bound-true t n rest e = ltb→lt t n (and-left (ltb t n) rest (of-true e))
+
+pub bound-rest : (t n : ℕ) (rest : Bool) → (ltb t n && rest) ≡ true → rest ≡ true
+bound-rest t n rest e = is-true rest (and-right (ltb t n) rest (of-true e))
+
+pub bound-false : (t n : ℕ) (rest : Bool) → (ltb t n && rest) ≡ false → (n ≤ t) ⊎ (rest ≡ false)
+bound-false t n rest e = go (either (ltb t n))
+  where
+    go : (ltb t n ≡ true) ⊎ (ltb t n ≡ false) → (n ≤ t) ⊎ (rest ≡ false)
+    go (inl h) = inr (subst (λ (x : Bool). (x && rest) ≡ false) h e)
+    go (inr h) = inl (ltb-false t n h)
+
+-- the test `!=`
+pub differ-true : (a b : ℕ) → not (eqb a b) ≡ true → a ≡ b → ⊥
+differ-true a b e = eqb-false a b (not-true (eqb a b) e)
+
+pub differ-false : (a b : ℕ) → not (eqb a b) ≡ false → a ≡ b
+differ-false a b e = eqb-true a b (not-false (eqb a b) e)
 
 -- ---- `some`
 

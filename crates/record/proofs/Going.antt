@@ -41,10 +41,6 @@ module _ (c : Config) (trace rows₀ words₀ : List ℕ) (a b : ℕ) where
       counts-are = λ i h. omega (arith, all i h, marks-none rows₀ i a);
     }
 
-    -- whether the loop goes on at cycle t
-    abbrev more : ℕ → ℕ → ℕ → Bool
-    more t own kept = ltb t (length rows₀) && (ltb t b || not (eqb own kept))
-
     module _ (rows words : List ℕ) (t own kept : ℕ) (counts : List ℕ) (g : Going rows words t own kept counts) where
       -- a count is at most 65,536 more than it began with, and as long as the loop goes on it has not used that up
       pub count-high : (i : ℕ) → i < marks → getD counts i 0 ≤ 131072
@@ -53,30 +49,21 @@ module _ (c : Config) (trace rows₀ words₀ : List ℕ) (a b : ℕ) where
       pub count-low : t < frames trace → (i : ℕ) → i < marks → 1 ≤ getD counts i 0
       count-low l i h = omega (arith, g .counts-are i h, marks-le rows₀ i a t, r .short)
 
-      module _ (goes : more t own kept ≡ true) where
-        pub in-trace : t < frames trace
-        in-trace =
-            subst (λ (n : ℕ). t < n) (r .rows-length)
-            (ltb→lt t (length rows₀) (and-left (ltb t (length rows₀)) (ltb t b || not (eqb own kept)) (of-true goes)))
-
-        differs : b ≤ t → own ≡ kept → ⊥
-        differs l e =
-            ⊎-elim (λ (h : T (ltb t b)). absurd (omega (arith, ltb→lt t b h))) (λ (h : T (not (eqb own kept))). T-not (eqb own kept) h (subst (λ (x : ℕ). T (eqb own x)) e (eqb-refl own)))
-            (or-cases (ltb t b) (not (eqb own kept)) (and-right (ltb t (length rows₀)) (ltb t b || not (eqb own kept)) (of-true goes)))
-
+      -- a turn, at a cycle of the trace where the run could not stop
+      module _ (here : t < frames trace) (differs : b ≤ t → own ≡ kept → ⊥) where
         pub going-more : (row next : ℕ) (with without : List ℕ) → Steps c own (frameAt trace t) row next
             → ((i : ℕ) → i < marks → getD with i 0 ≡ getD counts i 0 + toBit (bit row i))
             → ((i : ℕ) → i < marks → getD without i 0 + toBit (bit (getD rows t 0) i) ≡ getD with i 0)
             → Going (set rows t row) (set words t next) (suc t) next (getD words t 0) without
         unfolding keptAt ownWord
         going-more row next with without s w o = record {
-          ran = ran-more c trace a (keptAt words₀ a) (r .good) rows₀ words₀ rows words own t row next (r .rows-length) (r .words-length) in-trace s (g .ran);
+          ran = ran-more c trace a (keptAt words₀ a) (r .good) rows₀ words₀ rows words own t row next (r .rows-length) (r .words-length) here s (g .ran);
           kept-is = g .ran .words-are .beyond t (le-refl t);
           going-on = λ u l h e.
               ⊎-elim (λ (q : u ≡ t). differs (omega arith) (g .ran .word-is ∙ subst (λ (x : ℕ). ownWord c trace words₀ a x ≡ keptAt words₀ x) q e ∙ sym (g .kept-is)))
               (λ (k : u < t). g .going-on u l k e) (eq-or-lt-of-le (le-of-suc-le-suc h));
           counts-are = λ i h.
-              let in-rows : t < length rows = omega (arith, g .ran .rows-are .same-length, r .rows-length, in-trace) in
+              let in-rows : t < length rows = omega (arith, g .ran .rows-are .same-length, r .rows-length, here) in
               omega (
                 arith,
                 g .counts-are i h,
@@ -88,30 +75,12 @@ module _ (c : Config) (trace rows₀ words₀ : List ℕ) (a b : ℕ) where
               );
         }
 
-      pub going-done : more t own kept ≡ false → Resumed c trace rows₀ words₀ a b rows words t counts
+      -- the end, at or after b, where the words are the same or the trace ends
+      pub going-done : b ≤ t → (t < frames trace → own ≡ kept) → Resumed c trace rows₀ words₀ a b rows words t counts
       unfolding ownWord ownRow
-      going-done stop = record {
-        ends = record { low = low; high = g .ran .high; stops = stops; least = g .going-on };
+      going-done low same = record {
+        ends = record { low = low; high = g .ran .high; stops = λ l. sym (g .ran .word-is) ∙ same l ∙ g .kept-is; least = g .going-on };
         rows-are = g .ran .rows-are;
         words-are = g .ran .words-are;
         counts-are = g .counts-are;
       }
-        where
-          goes-on : t < frames trace → T (ltb t b || not (eqb own kept)) → ⊥
-          goes-on l h =
-              of-false stop
-              (and-intro (ltb t (length rows₀)) (ltb t b || not (eqb own kept)) (lt→ltb t (length rows₀) (subst⁻¹ (λ (n : ℕ). t < n) (r .rows-length) l)) h)
-
-          low : b ≤ t
-          low = lt-or-le (either (ltb t b))
-            where
-              lt-or-le : (ltb t b ≡ true) ⊎ (ltb t b ≡ false) → b ≤ t
-              lt-or-le (inl e) = absurd (goes-on (omega (arith, ltb-true t b e, r .high)) (or-left (ltb t b) (not (eqb own kept)) (of-true e)))
-              lt-or-le (inr e) = ltb-false t b e
-
-          stops : t < frames trace → ownWord c trace words₀ a t ≡ keptAt words₀ t
-          stops l = sym (g .ran .word-is) ∙ same (either (eqb own kept)) ∙ g .kept-is
-            where
-              same : (eqb own kept ≡ true) ⊎ (eqb own kept ≡ false) → own ≡ kept
-              same (inl e) = eqb-true own kept e
-              same (inr e) = absurd (goes-on l (or-right (ltb t b) (not (eqb own kept)) (not-T (eqb own kept) (of-false e))))

@@ -6,6 +6,7 @@ use config::refusal;
 use engine::step;
 use rules::Config;
 ghost use mathlib.Core.Path.{_≡_};
+ghost use mathlib.Core.Bool.{true, false};
 ghost use Prim.Native.Nat.{ℕ, _≤_, _<_};
 ghost use lib.IntN.{pos, subℕ};
 ghost use lib.ListN.{length, getD};
@@ -95,7 +96,7 @@ fn resume(
     let mut own = word;
     let mut kept = word;
     let mut tally = Tally::all(65536);
-    while (t < n) & ((t < b) | (own != kept)) {
+    while (t < n) & goes_on(t, b, own, kept) {
         let next = step(c, own, frame_at(trace, t));
         let row = next.row;
         let old = rows[t];
@@ -107,6 +108,16 @@ fn resume(
         t += 1;
     }
     Run { end: t, tally }
+}
+
+// Whether a run goes on before cycle t: it is not yet at b, or its word is not the kept one.
+fn goes_on(t: usize, b: usize, own: u64, kept: u64) -> bool
+    ensures { λ r. ⌜ (r ≡ true → b ≤ t → own ≡ kept → ⊥) × (r ≡ false → (b ≤ t) × (own ≡ kept)) ⌝ }
+{
+    if t < b {
+        return true;
+    }
+    own != kept
 }
 
 // The changes of a run's tally.

@@ -9,31 +9,31 @@ array-read-signed : tie.Need-array-read-signed
 array-read-signed c = search needs
 
 signed-requires : tie.Need-signed-requires
-signed-requires c κs = c .before .pre 0 (lit< tt)
+signed-requires c κs = c .before .pre _ (lit< tt)
 
 array-read-signed-2 : tie.Need-array-read-signed-2
 array-read-signed-2 c = search needs
 
 signed-requires-2 : tie.Need-signed-requires-2
-signed-requires-2 c κs = c .before .before .pre 1 (lit< tt)
+signed-requires-2 c κs = c .before .before .pre _ (lit< tt)
 
 array-read-signed-3 : tie.Need-array-read-signed-3
 array-read-signed-3 c = search needs
 
 signed-requires-3 : tie.Need-signed-requires-3
-signed-requires-3 c κs = c .before .before .before .pre 2 (lit< tt)
+signed-requires-3 c κs = c .before .before .before .pre _ (lit< tt)
 
 array-read-signed-4 : tie.Need-array-read-signed-4
 array-read-signed-4 c = search needs
 
 signed-requires-4 : tie.Need-signed-requires-4
-signed-requires-4 c κs = c .before .before .before .before .pre 3 (lit< tt)
+signed-requires-4 c κs = c .before .before .before .before .pre _ (lit< tt)
 
 array-read-signed-5 : tie.Need-array-read-signed-5
 array-read-signed-5 c = search needs
 
 signed-requires-5 : tie.Need-signed-requires-5
-signed-requires-5 c κs = c .before .before .before .before .before .pre 4 (lit< tt)
+signed-requires-5 c κs = c .before .before .before .before .before .pre _ (lit< tt)
 
 returns : tie.Need-returns
 returns c =
