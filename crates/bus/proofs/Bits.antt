@@ -177,6 +177,15 @@ number-some (suc k) f = more (f k) (number-some k f)
     more true ih = rw or-true (ap not (ne-eqb (number k f + 1 * 2 ^ k) 0 (λ e. omega (arith, one-mul (2 ^ k), pow-pos k))))
     more false ih = rw (zero-mul (2 ^ k), add-zero, or-false) ih
 
+-- a number of one bit is that bit
+pub number-one : (f : ℕ → Bool) → eqb (number 1 f) 1 ≡ f 0
+unfolding number
+number-one f = by (f 0)
+  where
+    by : (b : Bool) → eqb (0 + toBit b * 2 ^ 0) 1 ≡ b
+    by true = refl
+    by false = refl
+
 -- a number of no set bits
 pub number-none : (k : ℕ) (f : ℕ → Bool) → ((i : ℕ) → i < k → f i ≡ false) → number k f ≡ 0
 number-none k f h = sym (number-is k 0 f (pow-pos k) (λ i l. bit-past 0 0 i (lit< tt) zero-le ∙ sym (h i l)))

@@ -4,3 +4,4 @@ pub mod Bits
 pub mod Ranges
 pub mod Wires
 pub mod Ones
+pub mod Packed

@@ -5,11 +5,11 @@ use mathlib.Core.Bool.{Bool, true, false, cond}
 use mathlib.Core.Logic.{⊎-elim}
 use native.Mathlib.Omega.{arith}
 use borrow.Author.Tests.{le-leb, lt-leb, leb-true, leb-false}
-use lib.Dec.{T, leb, leb→le, le→leb}
+use lib.Dec.{T, eqb, leb, leb→le, le→leb}
 use Rattle.bus.specs.Bits.{bit, number}
 use Rattle.bus.specs.Range.{width, within, wireOf, valueOf}
 use Rattle.bus.specs.declared.range.Range.{Range}
-use Rattle.bus.proofs.Bits.{number-ext, bit-number}
+use Rattle.bus.proofs.Bits.{number-ext, number-one, bit-number}
 use Rattle.bus.proofs.Tests.{and-intro, and-left, and-right, either}
 
 pub left-low : (r : Range) → T (within r) → r .left ≤ 31
@@ -37,6 +37,19 @@ unfolding width
 width-le r h =
     ⊎-elim (λ (e : leb (r .right) (r .left) ≡ true). simp e (omega (arith, left-low r h)))
     (λ (e : leb (r .right) (r .left) ≡ false). simp e (omega (arith, right-low r h))) (either (leb (r .right) (r .left)))
+
+-- A port of width 1 has the one wire `left`, and its value is what that wire holds.
+pub value-wire : (r : Range) (wires : ℕ) → width r ≡ 1 → bit wires (r .left) ≡ eqb (valueOf r wires) 1
+unfolding valueOf width wireOf
+value-wire r wires e =
+    sym
+    (ap (λ (k : ℕ). eqb (number k (λ i. bit wires (wireOf r i))) 1) e ∙ number-one (λ i. bit wires (wireOf r i))
+    ∙ ap (bit wires) (first (leb (r .right) (r .left)) refl e))
+  where
+    first : (b : Bool) → leb (r .right) (r .left) ≡ b → suc (cond b (r .left - r .right) (r .right - r .left)) ≡ 1
+        → cond b (r .right + 0) (r .right - 0) ≡ r .left
+    first true f h = omega (arith, leb-true (r .right) (r .left) f)
+    first false f h = omega (arith, leb-false (r .right) (r .left) f)
 
 -- Declared from the other end, the port is as wide, and its bits come in the other order.
 module _ (r r′ : Range) (p : r′ .left ≡ r .right) (q : r′ .right ≡ r .left) where

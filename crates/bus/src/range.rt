@@ -1,8 +1,7 @@
 // The declared range of a port, and the value that the port's wires hold.
-use super::mask::low_ones;
 ghost use mathlib.Core.Path.{_≡_};
 ghost use Prim.Native.Nat.{ℕ, suc, _+_, _-_, _≤_, _<_};
-ghost use lib.Dec.{T};
+ghost use lib.Dec.{T, eqb};
 ghost use Rattle.bus.specs.Bits.{bit, number};
 ghost use Rattle.bus.specs.Range.{width, within, valueOf};
 
@@ -57,24 +56,41 @@ impl Range {
             ascending(left, right, wires)
         }
     }
+
+    // Whether the one wire of a port of width 1 is 1: its value without putting wires in order.
+    pub fn wire(self, wires: u32) -> bool
+        requires { ⌜ (T (within self)) × (width self ≡ 1) ⌝ }
+        ensures { λ r. ⌜ r ≡ eqb (valueOf self wires) 1 ⌝ }
+    {
+        let left = self.left as u32;
+        (wires >> left) % 2 == 1
+    }
 }
 
-// The wires from `right` up to `left`, the wire `right` as bit 0.
+// The wires from `right` up to `left`, the wire `right` as bit 0. The shift left drops the wires above `left`, and the shift right those below
+// `right`.
 fn descending(left: u32, right: u32, wires: u32) -> u32
     requires { ⌜ (right ≤ left) × (left ≤ 31) ⌝ }
     ensures { λ r. ⌜ r ≡ number (suc (left - right)) (λ (k : ℕ). bit wires (right + k)) ⌝ }
 {
-    ((wires >> right) as u64 & low_ones(left - right + 1)) as u32
+    (wires << (31 - left)) >> (31 - left + right)
 }
 
-// The wires from `right` down to `left`, the wire `right` as bit 0.
+// All 32 wires in the other order. The loop's bounds are constants, so that the compiler makes a bit reversal of it.
+fn reversed(wires: u32) -> u32
+    ensures { λ r. ⌜ r ≡ number 32 (λ (k : ℕ). bit wires (31 - k)) ⌝ }
+{
+    let mut v: u32 = 0;
+    for k in 0..32u32 {
+        v += ((wires >> (31 - k)) % 2) << k;
+    }
+    v
+}
+
+// The wires from `right` down to `left`, the wire `right` as bit 0. In the other order wire i stands at 31 - i, so that the range is a descending one.
 fn ascending(left: u32, right: u32, wires: u32) -> u32
     requires { ⌜ (left < right) × (right ≤ 31) ⌝ }
     ensures { λ r. ⌜ r ≡ number (suc (right - left)) (λ (k : ℕ). bit wires (right - k)) ⌝ }
 {
-    let mut v: u32 = 0;
-    for k in 0..right - left + 1 {
-        v += ((wires >> (right - k)) % 2) << k;
-    }
-    v
+    descending(31 - left, 31 - right, reversed(wires))
 }

@@ -2,10 +2,11 @@
 -- after its start. From it the marks and the next open word are those of one step. Assumes nothing.
 use Prim.Native.Nat.{ℕ, zero, suc, _+_, _-_, _*_, _%_, _^_, _≤_, _<_}
 use mathlib.Core.Path.{_≡_, refl, sym, ap, ap₂, _∙_}
-use mathlib.Core.Bool.{Bool, true, false, not, _&&_, _||_, cond}
+use mathlib.Core.Bool.{Bool, true, false, not, _&&_, _||_, cond, and-true}
 use native.Mathlib.Omega.{arith}
 use lib.Dec.{T, eqb, leb, ltb, ltb→lt}
 use lib.Count.{ones}
+use borrow.Author.Tests.{ne-eqb}
 use Rattle.bus.specs.Bits.{toBit, bit, some, number}
 use Rattle.bus.proofs.Tests.{and-left, some-ext}
 use Rattle.bus.proofs.Bits.{toBit-lt, eqb-toBit, bit-number, number-ext, bit-double, bit-low, bit-zero}
@@ -32,8 +33,19 @@ fits c w h =
 abbrev free : Config → ℕ → Bool
 free c w = not (eqb (c .kind) 2 && not (eqb w 0))
 
-abbrev start : Config → ℕ → ℕ → Bool
+abbrev pub start : Config → ℕ → ℕ → Bool
 start c w e = eqb (e % 2) 1 && free c w
+
+-- how the code asks for it: of kind 2 the word has to be 0, and of the others nothing
+pub start-waits : (c : Config) (w e : ℕ) → c .kind ≡ 2 → (eqb (e % 2) 1 && eqb w 0) ≡ start c w e
+start-waits c w e k = rw k (ap (λ (b : Bool). eqb (e % 2) 1 && b) (twice (eqb w 0)))
+  where
+    twice : (b : Bool) → b ≡ not (not b)
+    twice true = refl
+    twice false = refl
+
+pub start-free : (c : Config) (w e : ℕ) → (c .kind ≡ 2 → ⊥) → eqb (e % 2) 1 ≡ start c w e
+start-free c w e k = simp (ne-eqb (c .kind) 2 k, and-true)
 
 again : (a b : Bool) → (a && b && a) ≡ (a && b)
 again true true = refl
@@ -71,21 +83,24 @@ module _
       (λ j l. ap (λ (b : Bool). bit w j && not b) (event (suc j) (omega arith))))
 
   -- the row and the next open word of the code
-  pub steps : (next row : ℕ) (failure opened : Bool)
-      → next ≡ number (c .n - 1) (λ (j : ℕ). bit (w * 2 + toBit (start c w e)) j && bit e j)
+  pub steps : (b : Bool) (next row : ℕ) (failure opened : Bool)
+      → b ≡ start c w e
+      → next ≡ number (c .n - 1) (λ (j : ℕ). bit (w * 2 + toBit b) j && bit e j)
       → failure
       ≡ cond (eqb (c .kind) 0) (bit w (c .n - 2) && not (bit e (c .n - 1))) (some (c .n - 1) (λ (j : ℕ). bit w j && not (bit e (suc j))))
-      → opened ≡ cond (eqb (c .kind) 0) (bit next (c .n - 2)) (start c w e)
+      → opened ≡ cond (eqb (c .kind) 0) (bit next (c .n - 2)) b
       → row ≡ rowOf (record { failure = failure; illegal = false; opened = opened; closed = false; restarted = false })
       → StepsTo sequence c w f row next
   unfolding stepMarksOf stepOpenOf
-  steps next row failure opened n g o r =
+  steps b next row failure opened s n g o r =
       let word : next ≡ number (c .n - 1) (attempt c w f) =
-      n ∙ number-ext (c .n - 1) (λ (j : ℕ). bit (w * 2 + toBit (start c w e)) j && bit e j) (attempt c w f) (λ j l. attempt-is j (omega arith)) in
+      n
+      ∙ number-ext (c .n - 1) (λ (j : ℕ). bit (w * 2 + toBit b) j && bit e j) (attempt c w f)
+      (λ j l. ap (λ (a : Bool). bit (w * 2 + toBit a) j && bit e j) s ∙ attempt-is j (omega arith)) in
       let oldest : bit next (c .n - 2) ≡ attempt c w f (c .n - 2) =
       ap (λ (x : ℕ). bit x (c .n - 2)) word ∙ bit-number (c .n - 1) (attempt c w f) (c .n - 2) (omega arith) in
       record {
         row-is = r ∙ ap₂ (λ (a b : Bool). rowOf (record { failure = a; illegal = false; opened = b; closed = false; restarted = false }))
-            (g ∙ failure-is) (o ∙ ap₂ (cond (eqb (c .kind) 0)) oldest start-is);
+            (g ∙ failure-is) (o ∙ ap₂ (cond (eqb (c .kind) 0)) oldest (s ∙ start-is));
         word-is = word;
       }

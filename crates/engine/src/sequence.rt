@@ -6,7 +6,7 @@ use bus::low_ones;
 use rules::Config;
 use rules::Frame;
 ghost use mathlib.Core.Path.{_≡_};
-ghost use mathlib.Core.Bool.{not, _&&_, cond};
+ghost use mathlib.Core.Bool.{not, _&&_};
 ghost use Prim.Native.Nat.{ℕ, suc, _+_, _-_, _*_, _^_, _≤_, _<_};
 ghost use lib.Dec.{T};
 ghost use Rattle.bus.specs.Bits.{toBit, bit, some, number};
@@ -21,15 +21,28 @@ pub fn sequence_step(c: Config, word: u64, frame: Frame) -> Outcome
     ensures { λ r. ⌜ StepsTo sequence c word frame (r .row) (r .word) ⌝ }
 {
     let n = c.n;
-    let most = c.kind == 0;
     let events = events_in_order(c, frame);
-    let start = (events % 2 == 1) & !((c.kind == 2) & (word != 0));
+    // Kind 2 starts only where nothing is being tested.
+    let start = if c.kind == 2 {
+        (events % 2 == 1) & (word == 0)
+    } else {
+        events % 2 == 1
+    };
     let next = advanced(word, start, events, n);
-    let failure = fails(most, word, events, n);
-    let opened = opens(most, next, start, n);
-    Outcome {
-        row: row_of(failure, false, opened, false, false),
-        word: next,
+    // Kind 0 looks at the oldest attempt alone: mark 4 says that it has met all events but the last.
+    if c.kind == 0 {
+        let failure = oldest_fails(word, events, n);
+        let opened = bit_at(next, n - 2);
+        Outcome {
+            row: row_of(failure, false, opened, false, false),
+            word: next,
+        }
+    } else {
+        let failure = some_fails(word, events, n);
+        Outcome {
+            row: row_of(failure, false, start, false, false),
+            word: next,
+        }
     }
 }
 
@@ -51,24 +64,20 @@ fn advanced(word: u64, start: bool, events: u64, n: u32) -> u64
     (word * 2 + to_bit(start) as u64) & events & low_ones(n - 1)
 }
 
-// Whether an attempt had not its event: of kind 0 the oldest alone.
-fn fails(most: bool, word: u64, events: u64, n: u32) -> bool
-    requires { ⌜ (2 ≤ n) × (n ≤ 32) × (word < 2 ^ (n - 1)) ⌝ }
-    ensures { λ r. ⌜ r ≡ cond most (bit word (n - 2) && not (bit events (n - 1))) (some (n - 1) (λ (j : ℕ). bit word j && not (bit events (suc j)))) ⌝ }
+// Whether the oldest attempt had not its event, the last one.
+fn oldest_fails(word: u64, events: u64, n: u32) -> bool
+    requires { ⌜ (2 ≤ n) × (n ≤ 32) ⌝ }
+    ensures { λ r. ⌜ r ≡ (bit word (n - 2) && not (bit events (n - 1))) ⌝ }
 {
-    if most {
-        bit_at(word, n - 2) & !bit_at(events, n - 1)
-    } else {
-        word * 2 & events != word * 2
-    }
+    bit_at(word, n - 2) & !bit_at(events, n - 1)
 }
 
-// Whether mark 4 is set: for kind 0 an attempt has met all events but the last, else an attempt starts.
-fn opens(most: bool, next: u64, start: bool, n: u32) -> bool
-    requires { ⌜ (2 ≤ n) × (n ≤ 32) ⌝ }
-    ensures { λ r. ⌜ r ≡ cond most (bit next (n - 2)) start ⌝ }
+// Whether some attempt had not its event.
+fn some_fails(word: u64, events: u64, n: u32) -> bool
+    requires { ⌜ (n ≤ 32) × (word < 2 ^ (n - 1)) ⌝ }
+    ensures { λ r. ⌜ r ≡ some (n - 1) (λ (j : ℕ). bit word j && not (bit events (suc j))) ⌝ }
 {
-    if most { bit_at(next, n - 2) } else { start }
+    word * 2 & events != word * 2
 }
 
 // Whether bit k is 1.

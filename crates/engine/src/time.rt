@@ -4,7 +4,6 @@ use super::one_step::Outcome;
 use rules::Config;
 use rules::Frame;
 ghost use mathlib.Core.Path.{_≡_};
-ghost use Prim.Native.Nat.{_-_};
 ghost use Rattle.rules.specs.Config.{Good, family};
 ghost use Rattle.rules.specs.Config.Family.{time};
 ghost use Rattle.rules.specs.Step.{StepsTo};
@@ -16,32 +15,30 @@ pub fn time_step(c: Config, word: u64, frame: Frame) -> Outcome
 {
     let p = c.p;
     let q = c.q;
-    let start = p.value(frame.samples[1]) == 1;
-    let test = q.value(frame.samples[2]) == 1;
-    let pending = 0 < word;
-    let restarts = c.kind == 4;
-    let restart = restarts & start & pending;
-    let row = row_of(
-        pending & !test & !restart,
-        (c.kind == 5) & start & pending,
-        start & !pending,
-        (word == 1) & !restart,
-        restart,
-    );
+    let start = p.wire(frame.samples[1]);
     let window = c.n as u64;
-    if start & (!pending | restarts) {
-        Outcome { row, word: window }
-    } else {
-        Outcome {
-            row,
-            word: cycles_after(word),
-        }
+    // Nothing is pending, so nothing is tested.
+    if word == 0 {
+        return if start {
+            Outcome {
+                row: 4,
+                word: window,
+            }
+        } else {
+            Outcome { row: 0, word: 0 }
+        };
     }
-}
-
-// One cycle fewer, and none where none is left.
-fn cycles_after(word: u64) -> u64
-    ensures { λ r. ⌜ r ≡ word - 1 ⌝ }
-{
-    if 0 < word { word - 1 } else { 0 }
+    // The window of kind 4 begins again, and this cycle is not tested.
+    if start & (c.kind == 4) {
+        return Outcome {
+            row: 16,
+            word: window,
+        };
+    }
+    let test = q.wire(frame.samples[2]);
+    let left = word - 1;
+    Outcome {
+        row: row_of(!test, start & (c.kind == 5), false, word == 1, false),
+        word: left,
+    }
 }

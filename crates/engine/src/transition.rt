@@ -21,7 +21,7 @@ pub fn transition_step(c: Config, word: u64, frame: Frame) -> Outcome
     let test = p.value(frame.samples[1]);
     let starts = test == q.value(frame.samples[2]);
     let next_state = r.value(frame.samples[3]);
-    let failure = (0 < word) & (test as u64 != word % 0x1_0000_0000);
+    let failure = (word != 0) & (test as u64 + 0x1_0000_0000 != word);
     let row = row_of(failure, false, starts, false, false);
     if starts {
         Outcome {

@@ -1,5 +1,4 @@
 // Traces of 65,536 cycles and of one more.
-use super::text;
 use bus::Range;
 use record::full_check;
 use record::recheck;
@@ -22,7 +21,7 @@ pub fn at_the_limit() {
     let trace = [0u32; 262144];
     let mut rows = [0u32; 65536];
     let mut words = [0u64; 65536];
-    text::line(
+    report::line(
         b"N 65536:",
         full_check(transition(), &trace, &mut rows, &mut words) as u64,
     );
@@ -32,7 +31,7 @@ pub fn above_the_limit() {
     let trace = [0u32; 262148];
     let mut rows = [0u32; 65537];
     let mut words = [0u64; 65537];
-    text::line(
+    report::line(
         b"N 65537:",
         full_check(transition(), &trace, &mut rows, &mut words) as u64,
     );
@@ -41,26 +40,26 @@ pub fn above_the_limit() {
 pub fn too_many_rows() {
     let rows = [0u32; 65537];
     let all = totals(&rows);
-    text::line(b"totals of 65537 rows:", all.refusal as u64);
+    report::line(b"totals of 65537 rows:", all.refusal as u64);
 }
 
 // Every row claims every mark, and the trace is in reset throughout.
 pub fn all_marks_gone() {
-    text::text(b"65536 rows of 31, trace in reset\n");
+    report::text(b"65536 rows of 31, trace in reset\n");
     let trace = [0u32; 262144];
     let mut rows = [31u32; 65536];
     let mut words = [0u64; 65536];
-    text::answer(recheck(transition(), &trace, &mut rows, &mut words, 0, 65536));
+    report::answer(recheck(transition(), &trace, &mut rows, &mut words, 0, 65536));
 }
 
 // Test equals start state in every cycle, and is the stored next state.
 pub fn all_starts_seen() {
-    text::text(b"65536 rows of 0, a start in every cycle\n");
+    report::text(b"65536 rows of 0, a start in every cycle\n");
     let trace = [1u32; 262144];
     let mut rows = [0u32; 65536];
     let mut words = [0u64; 65536];
-    text::answer(recheck(transition(), &trace, &mut rows, &mut words, 0, 65536));
+    report::answer(recheck(transition(), &trace, &mut rows, &mut words, 0, 65536));
     let all = totals(&rows);
     let counts = all.counts;
-    text::line(b"rows with mark 4:", counts[2] as u64);
+    report::line(b"rows with mark 4:", counts[2] as u64);
 }

@@ -1,6 +1,5 @@
 // Failure lists.
 use super::small::checker;
-use super::text;
 use bus::Range;
 use failures::failures;
 use rules::Config;
@@ -18,15 +17,15 @@ fn two_ports(kind: u8, n: u32, p: Range, q: Range) -> Config {
 
 // Case F's samples under kind 1: two attempts fail in cycle 2. The slice has room for one entry more.
 pub fn overlapping() {
-    text::text(b"case F, kind 1\n");
+    report::text(b"case F, kind 1\n");
     let trace = [1, 4, 0, 0, 1, 6, 0, 0, 1, 0, 0, 0];
     let mut list = [9u32; 9];
-    text::list(failures(checker(1, 3, 2), &trace, &mut list), &list);
+    report::list(failures(checker(1, 3, 2), &trace, &mut list), &list);
 }
 
 // Case C: P [0:3].
 pub fn ascending() {
-    text::text(b"case C\n");
+    report::text(b"case C\n");
     let c = two_ports(
         1,
         4,
@@ -60,12 +59,12 @@ pub fn ascending() {
         0,
     ];
     let mut list = [9u32; 3];
-    text::list(failures(c, &trace, &mut list), &list);
+    report::list(failures(c, &trace, &mut list), &list);
 }
 
 // Case I: a failure and an illegal start in one cycle. Then kind 4 with a window reset in cycle 2 and a failure after it.
 pub fn windows() {
-    text::text(b"case I\n");
+    report::text(b"case I\n");
     let trace = [
         1,
         1,
@@ -93,19 +92,19 @@ pub fn windows() {
         0,
     ];
     let mut list = [9u32; 6];
-    text::list(failures(checker(5, 3, 0), &trace, &mut list), &list);
-    text::text(b"kind 4, window reset in cycle 2\n");
+    report::list(failures(checker(5, 3, 0), &trace, &mut list), &list);
+    report::text(b"kind 4, window reset in cycle 2\n");
     let moved = [1, 1, 0, 0, 1, 0, 1, 0, 1, 1, 0, 0, 1, 0, 0, 0];
     let mut after = [9u32; 3];
-    text::list(failures(checker(4, 3, 0), &moved, &mut after), &after);
+    report::list(failures(checker(4, 3, 0), &moved, &mut after), &after);
 }
 
 // Case F's samples under kind 1 again, in a slice that is one word short.
 pub fn too_short() {
-    text::text(b"case F, kind 1, five words\n");
+    report::text(b"case F, kind 1, five words\n");
     let trace = [1, 4, 0, 0, 1, 6, 0, 0, 1, 0, 0, 0];
     let mut list = [9u32; 5];
-    text::list(failures(checker(1, 3, 2), &trace, &mut list), &list);
+    report::list(failures(checker(1, 3, 2), &trace, &mut list), &list);
 }
 
 // An event is missing in cycles 31, 63, 95 and so on.
@@ -117,20 +116,20 @@ fn without_events(trace: &mut [u32]) {
 
 // 31 attempts start and then fail in one cycle, 2048 times.
 pub fn most_attempts() {
-    text::text(b"65536 cycles, 31 attempts fail in every 32nd\n");
+    report::text(b"65536 cycles, 31 attempts fail in every 32nd\n");
     let mut trace = [4294967295u32; 262144];
     without_events(&mut trace);
     let mut list = [0u32; 190464];
     let r = failures(checker(1, 32, 31), &trace, &mut list);
-    text::line(b"refusal", r.refusal as u64);
-    text::line(b"count", r.count as u64);
+    report::line(b"refusal", r.refusal as u64);
+    report::line(b"count", r.count as u64);
     let last = [list[190461], list[190462], list[190463]];
-    text::numbers(b"last entry", &last);
+    report::numbers(b"last entry", &last);
 }
 
 // Start 1 and test 0 in every cycle: a failure and an illegal start in each cycle of a window.
 pub fn most_entries() {
-    text::text(b"65536 cycles, kind 5, n 1024, start 1 and test 0\n");
+    report::text(b"65536 cycles, kind 5, n 1024, start 1 and test 0\n");
     let c = two_ports(
         5,
         1024,
@@ -140,8 +139,8 @@ pub fn most_entries() {
     let trace = [1u32; 262144];
     let mut list = [0u32; 392832];
     let r = failures(c, &trace, &mut list);
-    text::line(b"refusal", r.refusal as u64);
-    text::line(b"count", r.count as u64);
+    report::line(b"refusal", r.refusal as u64);
+    report::line(b"count", r.count as u64);
     let last = [list[392829], list[392830], list[392831]];
-    text::numbers(b"last entry", &last);
+    report::numbers(b"last entry", &last);
 }

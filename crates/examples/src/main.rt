@@ -1,9 +1,9 @@
 // The two recheck examples below the whiteboard table, the failure lists of cases C and F, the limits in the last lines of "Refusal numbers", a false record,
-// and changes at both ends of their range.
+// changes at both ends of their range, and first failures.
 mod large;
 mod lists;
+mod searches;
 mod small;
-mod text;
 
 fn main() {
     small::sequence_example();
@@ -22,4 +22,8 @@ fn main() {
     lists::too_short();
     lists::most_attempts();
     lists::most_entries();
+    searches::smallest_cycle_first();
+    searches::no_rows();
+    searches::at_the_limits();
+    searches::above_the_limits();
 }

@@ -1,5 +1,4 @@
 // Examples of a few cycles.
-use super::text;
 use bus::Range;
 use record::full_check;
 use record::recheck;
@@ -25,7 +24,7 @@ pub fn checker(kind: u8, n: u32, high: u8) -> Config {
 
 // Case A with cycle 2 made 2.
 pub fn sequence_example() {
-    text::text(b"case A, cycle 2 made 2\n");
+    report::text(b"case A, cycle 2 made 2\n");
     let c = checker(1, 4, 3);
     let mut trace = [
         1,
@@ -56,33 +55,33 @@ pub fn sequence_example() {
     let mut rows = [0u32; 6];
     let mut words = [0u64; 6];
     full_check(c, &trace, &mut rows, &mut words);
-    text::numbers(b"rows", &rows);
-    text::words(&words);
+    report::numbers(b"rows", &rows);
+    report::words(&words);
     trace[9] = 2;
-    text::answer(recheck(c, &trace, &mut rows, &mut words, 2, 3));
-    text::numbers(b"rows", &rows);
-    text::words(&words);
+    report::answer(recheck(c, &trace, &mut rows, &mut words, 2, 3));
+    report::numbers(b"rows", &rows);
+    report::words(&words);
 }
 
 // Kind 3, n 2, start and test 1 in six cycles, then start 0 in cycle 0: the recheck runs to the end.
 pub fn time_example() {
-    text::text(b"kind 3, n 2, start 0 in cycle 0\n");
+    report::text(b"kind 3, n 2, start 0 in cycle 0\n");
     let c = checker(3, 2, 0);
     let mut trace = [1u32; 24];
     let mut rows = [0u32; 6];
     let mut words = [0u64; 6];
     full_check(c, &trace, &mut rows, &mut words);
-    text::numbers(b"rows", &rows);
-    text::words(&words);
+    report::numbers(b"rows", &rows);
+    report::words(&words);
     trace[1] = 0;
-    text::answer(recheck(c, &trace, &mut rows, &mut words, 0, 1));
-    text::numbers(b"rows", &rows);
-    text::words(&words);
+    report::answer(recheck(c, &trace, &mut rows, &mut words, 0, 1));
+    report::numbers(b"rows", &rows);
+    report::words(&words);
 }
 
 // Case A with a record that is not its own: the recheck goes on from the kept word 0 and stops where the kept word is its own.
 pub fn false_record() {
-    text::text(b"case A, false record\n");
+    report::text(b"case A, false record\n");
     let c = checker(1, 4, 3);
     let trace = [
         1,
@@ -112,14 +111,14 @@ pub fn false_record() {
     ];
     let mut rows = [7, 7, 7, 7, 7, 7];
     let mut words = [6, 0, 0, 2, 5, 6];
-    text::answer(recheck(c, &trace, &mut rows, &mut words, 2, 3));
-    text::numbers(b"rows", &rows);
-    text::words(&words);
-    text::text(b"word that is not possible\n");
+    report::answer(recheck(c, &trace, &mut rows, &mut words, 2, 3));
+    report::numbers(b"rows", &rows);
+    report::words(&words);
+    report::text(b"word that is not possible\n");
     words[1] = 8;
-    text::answer(recheck(c, &trace, &mut rows, &mut words, 2, 3));
-    text::numbers(b"rows", &rows);
-    text::words(&words);
+    report::answer(recheck(c, &trace, &mut rows, &mut words, 2, 3));
+    report::numbers(b"rows", &rows);
+    report::words(&words);
 }
 
 // The refusal of a configuration with a trace of no cycles.
@@ -131,20 +130,20 @@ fn refusal_of(c: Config) -> u64 {
 }
 
 pub fn limits_of_n() {
-    text::line(b"kind 1, n 2:", refusal_of(checker(1, 2, 1)));
-    text::line(b"kind 1, n 32:", refusal_of(checker(1, 32, 31)));
-    text::line(b"kind 1, n 1:", refusal_of(checker(1, 1, 0)));
-    text::line(b"kind 1, n 33:", refusal_of(checker(1, 33, 32)));
-    text::line(b"kind 3, n 1:", refusal_of(checker(3, 1, 0)));
-    text::line(b"kind 3, n 1024:", refusal_of(checker(3, 1024, 0)));
-    text::line(b"kind 3, n 0:", refusal_of(checker(3, 0, 0)));
-    text::line(b"kind 3, n 1025:", refusal_of(checker(3, 1025, 0)));
+    report::line(b"kind 1, n 2:", refusal_of(checker(1, 2, 1)));
+    report::line(b"kind 1, n 32:", refusal_of(checker(1, 32, 31)));
+    report::line(b"kind 1, n 1:", refusal_of(checker(1, 1, 0)));
+    report::line(b"kind 1, n 33:", refusal_of(checker(1, 33, 32)));
+    report::line(b"kind 3, n 1:", refusal_of(checker(3, 1, 0)));
+    report::line(b"kind 3, n 1024:", refusal_of(checker(3, 1024, 0)));
+    report::line(b"kind 3, n 0:", refusal_of(checker(3, 0, 0)));
+    report::line(b"kind 3, n 1025:", refusal_of(checker(3, 1025, 0)));
 }
 
 pub fn empty_trace() {
-    text::text(b"a = b = N = 0\n");
+    report::text(b"a = b = N = 0\n");
     let trace = [0u32; 0];
     let mut rows = [0u32; 0];
     let mut words = [0u64; 0];
-    text::answer(recheck(checker(3, 1, 0), &trace, &mut rows, &mut words, 0, 0));
+    report::answer(recheck(checker(3, 1, 0), &trace, &mut rows, &mut words, 0, 0));
 }

@@ -46,7 +46,7 @@ module _
         by false q x e = e
 
     pub refused-lengths : (list : List ℕ) → (r ≡ 0 → ⊥) → ListAnswer c trace list list r 0
-    refused-lengths list h = record { refusal-is = refused-as-check list h; done = λ z. absurd (h z); refused = λ _. (refl, refl) }
+    refused-lengths list h = record { refusal-is = refused-as-check list h; done = λ z. absurd (h z); refused = λ _. (refl, refl); few = omega arith }
 
     module _ (z : r ≡ 0) where
       ok : Accepted c trace kept kept
@@ -66,18 +66,20 @@ module _
           refusal-is = sym (decided false (lt-leb (3 * length (failuresOf c trace)) (length list) (omega (arith, all))));
           done = λ e. absurd (omega arith);
           refused = λ _. (refl, refl);
+          few = omega arith;
         }
 
         module _ (l : count ≤ length list / 3) where
           pub all-fit : 3 * length (failuresOf c trace) ≤ length list
           all-fit = omega (arith, all)
 
-          pub all-written : (list′ : List ℕ) → list′ ≡ sets list 0 (wordsOf (failuresOf c trace)) → ListAnswer c trace list list′ 0 count
-          all-written list′ e =
+          pub all-written : count ≤ 64 * 65536 → (list′ : List ℕ) → list′ ≡ sets list 0 (wordsOf (failuresOf c trace)) → ListAnswer c trace list list′ 0 count
+          all-written few list′ e =
               let words = wordsOf (failuresOf c trace) in
               let long : 0 + length words ≡ 3 * length (failuresOf c trace) = zero-add (length words) ∙ words-length (failuresOf c trace) in
               record {
                 refusal-is = sym (decided true (le-leb (3 * length (failuresOf c trace)) (length list) all-fit));
                 done = λ _. (all, e ∙ sets-eq words list 0 (omega (arith, long, all-fit)) ∙ ap (λ (k : ℕ). words ++ drop k list) long);
                 refused = λ h. absurd (h refl);
+                few = few;
               }

@@ -47,7 +47,7 @@ pub fn failures(c: Config, trace: &[u32], list: &mut [u32]) -> FailureCount
 // The number of entries.
 fn count_all(c: Config, trace: &[u32]) -> usize
     requires { ⌜ (Good c) × (frames (now trace) ≤ 65536) ⌝ }
-    ensures { λ r. ⌜ r ≡ length (failuresOf c (now (trace .entry))) ⌝ }
+    ensures { λ r. ⌜ (r ≡ length (failuresOf c (now (trace .entry)))) × (r ≤ 64 * 65536) ⌝ }
 {
     let cycles = trace.len() / 4;
     let mut word: u64 = 0;

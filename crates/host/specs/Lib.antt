@@ -1,3 +1,4 @@
 -- What the contracts of the C host's calls cite.
 pub mod Bytes
 pub mod Step
+pub mod Calls

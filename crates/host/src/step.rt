@@ -1,12 +1,12 @@
 // One step for the C host.
 use super::bytes::load;
 use super::bytes::store;
-use bus::Range;
+use super::numbered::config_of;
 use checker::Monitor;
 use config::config_refusal;
-use rules::Config;
 use rules::Frame;
 ghost use mathlib.Core.List.{[], _∷_};
+ghost use Rattle.host.specs.Calls.{configOf};
 ghost use Rattle.host.specs.Step.{ByteStep};
 
 // One step of the checker on the frame of the four samples. The open word is in the eight lent bytes, least significant first: the next word is written
@@ -28,30 +28,9 @@ pub extern "C" fn selvedgeon_step(
     r: u32,
     word: &mut [u8],
 ) -> u32
-    ensures { λ answer. ⌜ ByteStep (record {
-      kind = kind;
-      n = n;
-      p = record { left = «p_left»; right = «p_right» };
-      q = record { left = «q_left»; right = «q_right» };
-      r = record { left = «r_left»; right = «r_right» };
-    }) (record { samples = reset ∷ p ∷ q ∷ r ∷ [] }) (now (word .entry)) (now (word .exit)) answer ⌝ }
+    ensures { λ answer. ⌜ ByteStep (configOf kind n «p_left» «p_right» «q_left» «q_right» «r_left» «r_right») (record { samples = reset ∷ p ∷ q ∷ r ∷ [] }) (now (word .entry)) (now (word .exit)) answer ⌝ }
 {
-    let config = Config {
-        kind,
-        n,
-        p: Range {
-            left: p_left,
-            right: p_right,
-        },
-        q: Range {
-            left: q_left,
-            right: q_right,
-        },
-        r: Range {
-            left: r_left,
-            right: r_right,
-        },
-    };
+    let config = config_of(kind, n, p_left, p_right, q_left, q_right, r_left, r_right);
     let refused = config_refusal(config);
     if refused != 0 {
         return 256 * refused;

@@ -124,15 +124,20 @@ pub record TimeConfig (c : Config) : Type 0 where
   pub low : 1 ≤ c .n
   pub high : c .n ≤ 1024
   pub p-width : width (c .p) ≡ 1
+  pub q-width : width (c .q) ≡ 1
 
 pub time-config : (c : Config) → Good c → family (c .kind) ≡ time → TimeConfig c
 unfolding limitsOf widthsOf
 time-config c good e =
     let l = limits-of c good time e in
+    let v = widths-of c good time e in
     record {
       low = leb→le 1 (c .n) (and-left (leb 1 (c .n)) (leb (c .n) 1024) l);
       high = leb→le (c .n) 1024 (and-right (leb 1 (c .n)) (leb (c .n) 1024) l);
-      p-width = eqb→eq (width (c .p)) 1 (and-left (eqb (width (c .p)) 1) (eqb (width (c .q)) 1 && unused (c .r)) (widths-of c good time e));
+      p-width = eqb→eq (width (c .p)) 1 (and-left (eqb (width (c .p)) 1) (eqb (width (c .q)) 1 && unused (c .r)) v);
+      q-width =
+          eqb→eq (width (c .q)) 1
+          (and-left (eqb (width (c .q)) 1) (unused (c .r)) (and-right (eqb (width (c .p)) 1) (eqb (width (c .q)) 1 && unused (c .r)) v));
     }
 
 pub transition-widths : (c : Config) → Good c → family (c .kind) ≡ transition → width (c .r) ≡ width (c .p)

@@ -1,80 +1,41 @@
--- `bus::range::ascending` meets its contract. The loop's invariant: v is the number made of the wires passed, from `right` down. The measure is what is
--- left of the wires. Assumes nothing.
-use Prim.Native.Nat.{ℕ, suc, _+_, _-_, _*_, _/_, _%_, _^_, _≤_, _<_}
-use mathlib.Core.Path.{_≡_, refl, ap, subst⁻¹, _∙_, sym}
-use native.Mathlib.Nat.{lt-of-lt-of-le}
-use native.Mathlib.Numerals.{add-one}
+-- `bus::range::ascending` meets its contract: bit k of the value is bit 31 - right + k of the wires in the other order, which is wire
+-- right - k. Assumes nothing.
+use Prim.Native.Nat.{ℕ, suc, _+_, _-_, _<_}
+use mathlib.Core.Path.{_≡_, ap, _∙_}
 use native.Mathlib.Omega.{arith}
-use lib.Pow.{pow-mono}
 use Rattle.bus.specs.Bits.{bit, number}
-use Rattle.bus.proofs.Bits.{number-more, number-lt}
+use Rattle.bus.proofs.Bits.{number-ext, bit-number}
+use borrow.Author.Needs.{needs}
 use Rattle.bus.proofs.range.ascending.Statement.{statement}
 use Rattle.bus.proofs.range.ascending.Tie as tie
 
-abbrev Inv-loop : tie.InvT-loop
-Inv-loop left right wires v₀ k₀ k-end v k = (v ≡ number k (λ (i : ℕ). bit wires (right - i))) × (k ≤ k-end)
+sub-descending : tie.Need-sub-descending
+sub-descending c = search needs
 
-abbrev μ-loop : tie.MeasureT-loop
-μ-loop left right wires v₀ k₀ k-end v k = k-end - k
+sub-descending-2 : tie.Need-sub-descending-2
+sub-descending-2 c = search needs
 
-sub-k-end : tie.Need-sub-k-end Inv-loop μ-loop
-sub-k-end c = omega arith
+reversed-requires : tie.Need-reversed-requires
+reversed-requires c κs = search needs
 
-add-k-end : tie.Need-add-k-end Inv-loop μ-loop
-add-k-end c = omega arith
+descending-requires : tie.Need-descending-requires
+descending-requires c κs = search needs
 
-loop-holds : tie.Need-loop-holds Inv-loop μ-loop
-unfolding number
-loop-holds c = (refl, omega arith)
-
-sub-v : tie.Need-sub-v Inv-loop μ-loop
-sub-v c = omega arith
-
-shr-v : tie.Need-shr-v Inv-loop μ-loop
-shr-v c = omega arith
-
-shl-v : tie.Need-shl-v Inv-loop μ-loop
-shl-v c = omega arith
-
--- what a turn leaves in v
-abbrev wires : tie.In-loop Inv-loop μ-loop → ℕ
-wires c = c .before .before .args .wires
-
-abbrev right : tie.In-loop Inv-loop μ-loop → ℕ
-right c = c .before .before .args .right
-
-abbrev at : tie.In-loop Inv-loop μ-loop → ℕ
-at c = c .before .loop .k
-
-more : (c : tie.In-loop Inv-loop μ-loop)
-    → c .before .loop .v + (wires c / 2 ^ (right c - at c) % 2 * 2 ^ at c) % 2 ^ 32 ≡ number (suc (at c)) (λ (i : ℕ). bit (wires c) (right c - i))
-more c =
-    let h : at c < 32 = omega arith in
-    number-more (at c) 32 (λ (i : ℕ). bit (wires c) (right c - i)) (c .before .loop .v) (wires c) (right c - at c) h (c .before .loop .inv .0) refl
-
-add-v : tie.Need-add-v Inv-loop μ-loop
-add-v c =
-    let h : suc (at c) ≤ 32 = omega arith in
-    record {
-      fits = subst⁻¹ (λ (x : ℕ). x < 2 ^ 32) (more c) (lt-of-lt-of-le (number-lt (suc (at c)) (λ (i : ℕ). bit (wires c) (right c - i))) (pow-mono h));
-    }
-
-add-k : tie.Need-add-k Inv-loop μ-loop
-add-k c = omega arith
-
-loop-less : tie.Need-loop-less Inv-loop μ-loop
-loop-less c = omega arith
-
-loop-again : tie.Need-loop-again Inv-loop μ-loop
-loop-again c = (more c ∙ ap (λ (n : ℕ). number n (λ (i : ℕ). bit (wires c) (right c - i))) (sym (add-one (at c))), omega arith)
-
-returns : tie.Need-returns Inv-loop μ-loop
+returns : tie.Need-returns
 returns c =
-    let args = c .before .before .args in
-    let e : c .before .loop .k ≡ suc (args .right - args .left) = omega arith in
-    c .before .loop .inv .0 ∙ ap (λ (n : ℕ). number n (λ (i : ℕ). bit (args .wires) (args .right - i))) e
+    let a = c .before .before .args in
+    let turned = c .before .reversed .result in
+    let n = suc (a .right - a .left) in
+    let e : suc (31 - a .left - (31 - a .right)) ≡ n = omega arith in
+    c .descending .ensures ∙ ap (λ (w : ℕ). number w (λ (k : ℕ). bit turned (31 - a .right + k))) e
+    ∙ number-ext n (λ (k : ℕ). bit turned (31 - a .right + k)) (λ (k : ℕ). bit (a .wires) (a .right - k))
+    (λ k l.
+    let low : 31 - a .right + k < 32 = omega arith in
+    let wire : 31 - (31 - a .right + k) ≡ a .right - k = omega arith in
+    ap (λ (x : ℕ). bit x (31 - a .right + k)) (c .before .reversed .ensures)
+    ∙ bit-number 32 (λ (i : ℕ). bit (a .wires) (31 - i)) (31 - a .right + k) low ∙ ap (bit (a .wires)) wire)
 
 pub ascending-spec : {M : Type 1} → statement M
 ascending-spec =
     tie.close
-    (tie.spec Inv-loop μ-loop sub-k-end add-k-end loop-holds sub-v shr-v shl-v add-v add-k loop-less loop-again returns)
+    (tie.spec sub-descending sub-descending-2 reversed-requires descending-requires returns)

@@ -1,10 +1,13 @@
 -- `engine::sequence::sequence_step` meets its contract: its callees' answers are one step's marks and next open word. Assumes nothing.
 use Prim.Native.Nat.{_-_, _≤_}
+use mathlib.Core.Path.{_≡_, _∙_}
+use mathlib.Core.Logic.{⊎-elim}
 use native.Mathlib.Nat.{lt-of-lt-of-le}
 use native.Mathlib.Omega.{arith}
 use lib.Pow.{pow-mono}
 use borrow.Author.Needs.{needs}
-use Rattle.engine.proofs.SequenceCode.{fits, steps}
+use borrow.Author.Tests.{ne-eqb}
+use Rattle.engine.proofs.SequenceCode.{fits, start, start-waits, start-free, steps}
 use Rattle.engine.proofs.sequence.sequence_step.Statement.{statement}
 use Rattle.engine.proofs.sequence.sequence_step.Tie as tie
 
@@ -18,29 +21,63 @@ advanced-requires c κs =
     let h : s .args .c .n - 1 ≤ 32 = omega arith in
     (lt-of-lt-of-le small (pow-mono h), omega arith, high)
 
-fails-requires : tie.Need-fails-requires
-fails-requires c κs = let s = c .before .before .before .before in fits (s .args .c) (s .args .word) (s .pre)
-
-opens-requires : tie.Need-opens-requires
-opens-requires c κs =
-    let s = c .before .before .before .before .before in
+oldest-fails-requires : tie.Need-oldest-fails-requires
+oldest-fails-requires c κs =
+    let s = c .before .before .before .before .before .before in
     let (low, high, small) = fits (s .args .c) (s .args .word) (s .pre) in
     (low, high)
+
+sub-bit-at : tie.Need-sub-bit-at
+sub-bit-at c =
+    let s = c .before .before .before .before .before .before .before in fits (s .args .c) (s .args .word) (s .pre) .0
+
+bit-at-requires : tie.Need-bit-at-requires
+bit-at-requires c κs =
+    let s = c .before .before .before .before .before .before .before in
+    omega (arith, fits (s .args .c) (s .args .word) (s .pre) .1)
 
 row-of-requires : tie.Need-row-of-requires
 row-of-requires c κs = search needs
 
+some-fails-requires : tie.Need-some-fails-requires
+some-fails-requires c κs =
+    let s = c .before .before .before .before .before .before in
+    let (low, high, small) = fits (s .args .c) (s .args .word) (s .pre) in
+    (high, small)
+
+row-of-requires-2 : tie.Need-row-of-requires-2
+row-of-requires-2 c κs = search needs
+
+-- the start is the one that the definition accepts, whichever arm it came from
+started : (c : tie.Joined1)
+    → c .if1 .start
+    ≡ start (c .before .before .before .args .c) (c .before .before .before .args .word) (c .before .before .events-in-order .result)
+started c =
+    let a = c .before .before .before .args in
+    let e = c .before .before .events-in-order .result in
+    ⊎-elim (λ w. w .1 ∙ start-waits (a .c) (a .word) e (w .0 .taken)) (λ w. w .1 ∙ start-free (a .c) (a .word) e (w .0 .left)) (c .if1 .came)
+
 returns : tie.Need-returns
 returns c =
-    let opens = c .before .opens in
-    let fails = c .before .before .fails in
-    let advanced = c .before .before .before .advanced in
-    let events = c .before .before .before .before .before .events-in-order in
-    let s = c .before .before .before .before .before .before .before in
-    let (low, high, small) = fits (s .args .c) (s .args .word) (s .pre) in
-    steps (s .args .c) (s .args .word) (s .args .frame) (events .result) low (events .ensures)
-    (advanced .result) (c .row-of .result) (fails .result) (opens .result)
-    (advanced .ensures) (fails .ensures) (opens .ensures) (c .row-of .ensures)
+    let joined = c .before .before .before .before .before .before in
+    let advanced = c .before .before .before .before .before .advanced in
+    let events = joined .before .before .events-in-order in
+    let s = joined .before .before .before in
+    let kind = c .before .before .before .if2 .taken in
+    steps (s .args .c) (s .args .word) (s .args .frame) (events .result) (fits (s .args .c) (s .args .word) (s .pre) .0) (events .ensures)
+    (joined .if1 .start) (advanced .result) (c .row-of .result) (c .before .before .oldest-fails .result) (c .before .bit-at .result)
+    (started joined) (advanced .ensures) (rw kind (c .before .before .oldest-fails .ensures)) (rw kind (c .before .bit-at .ensures)) (c .row-of .ensures)
+
+returns-2 : tie.Need-returns-2
+returns-2 c =
+    let joined = c .before .before .before .before .before in
+    let advanced = c .before .before .before .before .advanced in
+    let events = joined .before .before .events-in-order in
+    let s = joined .before .before .before in
+    let kind = ne-eqb (s .args .c .kind) 0 (c .before .before .if2 .left) in
+    steps (s .args .c) (s .args .word) (s .args .frame) (events .result) (fits (s .args .c) (s .args .word) (s .pre) .0) (events .ensures)
+    (joined .if1 .start) (advanced .result) (c .row-of2 .result) (c .before .some-fails .result) (joined .if1 .start)
+    (started joined) (advanced .ensures) (rw kind (c .before .some-fails .ensures)) (rw kind) (c .row-of2 .ensures)
 
 pub sequence-step-spec : {M : Type 1} → statement M
 sequence-step-spec =
@@ -48,7 +85,11 @@ sequence-step-spec =
     (tie.spec
     events-in-order-requires
     advanced-requires
-    fails-requires
-    opens-requires
+    oldest-fails-requires
+    sub-bit-at
+    bit-at-requires
     row-of-requires
-    returns)
+    some-fails-requires
+    row-of-requires-2
+    returns
+    returns-2)

@@ -27,6 +27,9 @@ value-requires-3 c κs = let at = c .before .before .before .before .before .bef
 cast-failure : tie.Need-cast-failure
 cast-failure c = search needs
 
+add-failure : tie.Need-add-failure
+add-failure c = search needs
+
 row-of-requires : tie.Need-row-of-requires
 row-of-requires c κs = search needs
 
@@ -43,8 +46,8 @@ returns c =
     let p = c .before .before .before .before .before .before .value .ensures in
     let q = c .before .before .before .before .value2 .ensures in
     record {
-      row-is = transition-row (a .c) (a .word) (a .t3) (at .pre .0) (at .pre .1) (at .pre .2) _ _ p q (c .before .row-of .result) (c .before .row-of .ensures);
-      word-is = transition-next (a .c) (a .word) (a .t3) (at .pre .0) (at .pre .1) (at .pre .2) _ _ p q true _ (c .if1 .taken) (c .before .before .value3 .ensures);
+      row-is = transition-row (a .c) (a .word) (a .t3) (at .pre .1) (at .pre .2) _ _ p q (c .before .row-of .result) (c .before .row-of .ensures);
+      word-is = transition-next (a .c) (a .word) (a .t3) (at .pre .1) (at .pre .2) _ _ p q true _ (c .if1 .taken) (c .before .before .value3 .ensures);
     }
 
 returns-2 : tie.Need-returns-2
@@ -54,8 +57,8 @@ returns-2 c =
     let p = c .before .before .before .before .before .before .value .ensures in
     let q = c .before .before .before .before .value2 .ensures in
     record {
-      row-is = transition-row (a .c) (a .word) (a .t3) (at .pre .0) (at .pre .1) (at .pre .2) _ _ p q (c .before .row-of .result) (c .before .row-of .ensures);
-      word-is = transition-next (a .c) (a .word) (a .t3) (at .pre .0) (at .pre .1) (at .pre .2) _ _ p q false _ (c .if1 .left) (c .before .before .value3 .ensures);
+      row-is = transition-row (a .c) (a .word) (a .t3) (at .pre .1) (at .pre .2) _ _ p q (c .before .row-of .result) (c .before .row-of .ensures);
+      word-is = transition-next (a .c) (a .word) (a .t3) (at .pre .1) (at .pre .2) _ _ p q false _ (c .if1 .left) (c .before .before .value3 .ensures);
     }
 
 pub transition-step-spec : {M : Type 1} → statement M
@@ -69,6 +72,7 @@ transition-step-spec =
     element-copy-out-value-3
     value-requires-3
     cast-failure
+    add-failure
     row-of-requires
     cast-t26
     add-t27

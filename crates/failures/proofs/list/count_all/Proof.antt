@@ -70,7 +70,7 @@ returns c =
     let s = c .before .before .before in
     let at = c .before .loop in
     let all : at .t ≡ frames (s .args .trace .now) = omega (arith, at .inv .high) in
-    rw all at (at .inv .count-is)
+    (rw all at (at .inv .count-is), omega (arith, at .inv .high, at .inv .count-low, s .pre .1))
 
 pub count-all-spec : {M : Type 1} → statement M
 count-all-spec =

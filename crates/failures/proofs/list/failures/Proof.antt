@@ -30,7 +30,7 @@ write-all-requires c κs =
     let ok = accepted-lengths (a .c) (now (a .trace)) (tested .result) (tested .ensures) accepted in (
       ok .0,
       ok .1,
-      all-fit (a .c) (now (a .trace)) (tested .result) (tested .ensures) accepted (now (a .list)) (counted .result) (counted .ensures) (c .before .if2 .left),
+      all-fit (a .c) (now (a .trace)) (tested .result) (tested .ensures) accepted (now (a .list)) (counted .result) (counted .ensures .0) (c .before .if2 .left),
     )
 
 returns-2 : tie.Need-returns-2
@@ -38,7 +38,7 @@ returns-2 c =
     let a = c .before .before .before .before .before .before .args in
     let tested = c .before .before .before .lengths-refusal in
     let counted = c .before .count-all in
-    too-short (a .c) (now (a .trace)) (tested .result) (tested .ensures) (c .before .before .if1 .left) (now (a .list)) (counted .result) (counted .ensures)
+    too-short (a .c) (now (a .trace)) (tested .result) (tested .ensures) (c .before .before .if1 .left) (now (a .list)) (counted .result) (counted .ensures .0)
     (c .if2 .taken)
 
 same-length : tie.Need-same-length
@@ -50,8 +50,8 @@ returns-3 c =
     let tested = c .before .before .before .before .before .before .before .lengths-refusal in
     let accepted = c .before .before .before .before .before .before .if1 .left in
     let counted = c .before .before .before .before .before .count-all in
-    all-written (a .c) (now (a .trace)) (tested .result) (tested .ensures) accepted (now (a .list)) (counted .result) (counted .ensures)
-    (c .before .before .before .before .if2 .left) _ (c .before .before .write-all .ensures)
+    all-written (a .c) (now (a .trace)) (tested .result) (tested .ensures) accepted (now (a .list)) (counted .result) (counted .ensures .0)
+    (c .before .before .before .before .if2 .left) (counted .ensures .1) _ (c .before .before .write-all .ensures)
 
 pub failures-spec : {M : Type 1} → statement M
 failures-spec =

@@ -1,0 +1,2 @@
+-- What the contracts of the calls cite, besides the rules.
+pub mod Bench

@@ -1,0 +1,4 @@
+-- Laws of the search for the first failure, and the proofs of its functions.
+pub mod Refusals
+pub mod Marks
+pub mod Searches

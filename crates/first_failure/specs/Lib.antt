@@ -1,0 +1,2 @@
+-- What the contracts of the first failure cite.
+pub mod Search

@@ -1,0 +1,197 @@
+// The twelve cases, as the table shows them: the case, the checker, the samples, and the rows and words of the full check.
+use bus::Range;
+use record::full_check;
+use rules::Config;
+
+// A port's range.
+pub fn range(left: u8, right: u8) -> Range {
+    Range { left, right }
+}
+
+// A checker of kinds 0 to 2 on P.
+pub fn sequence(kind: u8, n: u32, p: Range) -> Config {
+    Config {
+        kind,
+        n,
+        p,
+        q: range(0, 0),
+        r: range(0, 0),
+    }
+}
+
+// A checker of kinds 3 to 5, with start and test on wire 0 of P and of Q.
+pub fn time(kind: u8, n: u32) -> Config {
+    sequence(kind, n, range(0, 0))
+}
+
+// Six cycles out of reset.
+pub fn six(p: [u32; 6], q: [u32; 6]) -> [u32; 24] {
+    [
+        1,
+        p[0],
+        q[0],
+        0,
+        1,
+        p[1],
+        q[1],
+        0,
+        1,
+        p[2],
+        q[2],
+        0,
+        1,
+        p[3],
+        q[3],
+        0,
+        1,
+        p[4],
+        q[4],
+        0,
+        1,
+        p[5],
+        q[5],
+        0,
+    ]
+}
+
+// Three cycles out of reset.
+pub fn three(p: [u32; 3], q: [u32; 3]) -> [u32; 12] {
+    [1, p[0], q[0], 0, 1, p[1], q[1], 0, 1, p[2], q[2], 0]
+}
+
+// Case A's samples, and case F's.
+pub fn case_a() -> [u32; 6] {
+    [8, 4, 10, 5, 2, 1]
+}
+
+pub fn case_f() -> [u32; 3] {
+    [4, 6, 0]
+}
+
+// The first columns of a line: the case and the checker, and the name of the first samples.
+fn begin(line: &[u8]) {
+    report::text(b"| ");
+    report::text(line);
+}
+
+// The last columns: rows and words.
+fn end(c: Config, trace: &[u32], rows: &mut [u32], words: &mut [u64]) {
+    full_check(c, trace, rows, words);
+    report::text(b" |");
+    report::spaced_numbers(rows);
+    report::text(b" |");
+    report::spaced_words(words);
+    report::text(b" |\n");
+}
+
+fn end_of_six(c: Config, trace: [u32; 24]) {
+    let mut rows = [0u32; 6];
+    let mut words = [0u64; 6];
+    end(c, &trace, &mut rows, &mut words);
+}
+
+fn end_of_three(c: Config, trace: [u32; 12]) {
+    let mut rows = [0u32; 3];
+    let mut words = [0u64; 3];
+    end(c, &trace, &mut rows, &mut words);
+}
+
+fn events(line: &[u8], c: Config, p: [u32; 6]) {
+    begin(line);
+    report::spaced_numbers(&p);
+    end_of_six(c, six(p, [0; 6]));
+}
+
+pub fn sequences() {
+    let a = case_a();
+    let d = [4, 6, 5, 4, 4, 4];
+    report::text(b"| | checker | samples | rows | words |\n|---|---|---|---|---|\n");
+    events(b"A | 1, n 4, [3:0] |", sequence(1, 4, range(3, 0)), a);
+    events(b"B | 0, n 4, [3:0] |", sequence(0, 4, range(3, 0)), a);
+    events(b"C | 1, n 4, [0:3] |", sequence(1, 4, range(0, 3)), a);
+    events(b"D | 2, n 3, [2:0] |", sequence(2, 3, range(2, 0)), d);
+    events(b"E | 1, n 3, [2:0] |", sequence(1, 3, range(2, 0)), d);
+    let f = case_f();
+    begin(b"F | 0, n 3, [2:0] |");
+    report::spaced_numbers(&f);
+    end_of_three(sequence(0, 3, range(2, 0)), three(f, [0; 3]));
+}
+
+fn window(line: &[u8], c: Config, start: [u32; 6], test: [u32; 6]) {
+    begin(line);
+    report::spaced_numbers(&start);
+    report::text(b", test");
+    report::spaced_numbers(&test);
+    end_of_six(c, six(start, test));
+}
+
+pub fn windows() {
+    let start = [1, 0, 1, 0, 1, 0];
+    let test = [0, 1, 0, 1, 1, 1];
+    window(b"G | 3, n 3 | start", time(3, 3), start, test);
+    window(b"H | 4, n 3 | start", time(4, 3), start, test);
+    window(b"I | 5, n 3 | start", time(5, 3), start, test);
+    let start = [1, 1, 1];
+    let test = [1, 1, 0];
+    begin(b"J | 3, n 1 | start");
+    report::spaced_numbers(&start);
+    report::text(b", test");
+    report::spaced_numbers(&test);
+    end_of_three(time(3, 1), three(start, test));
+}
+
+// The samples of a transition checker.
+fn states(line: &[u8], test: &[u32], start: &[u32], next: &[u32]) {
+    begin(line);
+    report::spaced_numbers(test);
+    report::text(b", start");
+    report::spaced_numbers(start);
+    report::text(b", next");
+    report::spaced_numbers(next);
+}
+
+pub fn transitions() {
+    let c = Config {
+        kind: 6,
+        n: 0,
+        p: range(2, 0),
+        q: range(2, 0),
+        r: range(2, 0),
+    };
+    let t = [3, 4, 3, 0, 3];
+    let s = [3u32; 5];
+    let n = [4, 4, 0, 4, 4];
+    states(b"K | 6, all [2:0] | test", &t, &s, &n);
+    let trace = [
+        1,
+        t[0],
+        s[0],
+        n[0],
+        1,
+        t[1],
+        s[1],
+        n[1],
+        1,
+        t[2],
+        s[2],
+        n[2],
+        1,
+        t[3],
+        s[3],
+        n[3],
+        1,
+        t[4],
+        s[4],
+        n[4],
+    ];
+    let mut rows = [0u32; 5];
+    let mut words = [0u64; 5];
+    end(c, &trace, &mut rows, &mut words);
+    let t = [3u32; 2];
+    let n = [4u32; 2];
+    states(b"L | 6, all [2:0] | test", &t, &t, &n);
+    let trace = [1, t[0], t[0], n[0], 1, t[1], t[1], n[1]];
+    let mut rows = [0u32; 2];
+    let mut words = [0u64; 2];
+    end(c, &trace, &mut rows, &mut words);
+}

@@ -1,0 +1,83 @@
+/*
+ * A full check, an edit and a recheck, as a viewer does them: case A of the whiteboard table, a sequence of four events on
+ * P [3:0], with cycle 2 changed from 10 to 2. Then a call that is refused.
+ *
+ *     sh build.sh          builds and runs this example
+ */
+#include <inttypes.h>
+#include <stdio.h>
+
+#include "selvedgeon.h"
+
+#define CYCLES 6
+
+/* kind 1, n 4, P [3:0]; Q and R are not used */
+#define SEQUENCE 1, 4, 3, 0, 0, 0, 0, 0
+
+static const char *refusal_in_words(uint32_t refusal)
+{
+    switch (refusal) {
+    case SELVEDGEON_DONE: return "done";
+    case SELVEDGEON_BAD_KIND: return "the kind is above 6";
+    case SELVEDGEON_BAD_N: return "n is outside its limits";
+    case SELVEDGEON_BAD_PORTS: return "an index above 31, a wrong width, or an unused port that is not 0:0";
+    case SELVEDGEON_BAD_TRACE: return "the trace is no multiple of 4 words, or has more than 65,536 cycles";
+    case SELVEDGEON_BAD_LENGTH: return "a lent slice has not the length that is due";
+    case SELVEDGEON_BAD_RANGE: return "a is above b, or b above N";
+    case SELVEDGEON_BAD_WORD: return "the word to go on from is not possible";
+    case SELVEDGEON_LIST_FULL: return "the list is too short";
+    case SELVEDGEON_TOO_MANY: return "more than 64 checkers";
+    default: return "no refusal number";
+    }
+}
+
+static void print_marks(uint32_t row)
+{
+    static const char *const names[] = {"failure", "illegal start", "opened", "closed", "restarted"};
+    int any = 0;
+    for (int i = 0; i < 5; i++) {
+        if (row >> i & 1) {
+            printf("%s%s", any ? ", " : "", names[i]);
+            any = 1;
+        }
+    }
+    printf("%s\n", any ? "" : "-");
+}
+
+static void print_record(const uint32_t *trace, const uint32_t *rows, const uint64_t *words)
+{
+    printf("  cycle  P   open word  marks\n");
+    for (int t = 0; t < CYCLES; t++) {
+        printf("  %5d  %2" PRIu32 "  %9" PRIu64 "  ", t, trace[4 * t + 1], words[t]);
+        print_marks(rows[t]);
+    }
+}
+
+int main(void)
+{
+    const uint32_t samples[CYCLES] = {8, 4, 10, 5, 2, 1};
+    uint32_t trace[4 * CYCLES] = {0};
+    uint32_t rows[CYCLES];
+    uint64_t words[CYCLES];
+    int32_t answer[6];
+
+    for (int t = 0; t < CYCLES; t++) {
+        trace[4 * t] = 1; /* reset_n */
+        trace[4 * t + 1] = samples[t];
+    }
+    uint32_t refusal = selvedgeon_check(SEQUENCE, trace, 4 * CYCLES, rows, CYCLES, words, CYCLES);
+    printf("full check: %s\n", refusal_in_words(refusal));
+    print_record(trace, rows, words);
+
+    trace[4 * 2 + 1] = 2;
+    refusal = selvedgeon_recheck(SEQUENCE, trace, 4 * CYCLES, rows, CYCLES, words, CYCLES, 2, 3, answer, 6);
+    printf("cycle 2 becomes 2, recheck of cycles 2 to 2: %s\n", refusal_in_words(refusal));
+    print_record(trace, rows, words);
+    printf("  stopped before cycle %" PRId32 "; changes of marks 1, 2, 4, 8, 16: %" PRId32 " %" PRId32 " %" PRId32
+           " %" PRId32 " %" PRId32 "\n",
+           answer[0], answer[1], answer[2], answer[3], answer[4], answer[5]);
+
+    refusal = selvedgeon_recheck(SEQUENCE, trace, 4 * CYCLES, rows, CYCLES, words, CYCLES, 4, 3, answer, 6);
+    printf("recheck from 4 to 3: refused, %s\n", refusal_in_words(refusal));
+    return 0;
+}

@@ -1,0 +1,158 @@
+/*
+ * Selvedgeon: OVL assertion checkers over a recorded trace.
+ *
+ * A trace is N frames of four 32-bit words, one frame a cycle: reset, P, Q, R. Bit 0 of the reset word is reset_n; bit w of
+ * a port's word is its wire w. A port is declared by a range [left:right] of wire numbers 0 to 31, and its value is read
+ * in that order: the left wire is the most significant, and the right wire is bit 0.
+ *
+ * A checker is configured by eight numbers: its kind, n (num_cks), and the left and right end of P, Q and R.
+ *
+ *     kind                          n          P          Q            R
+ *     0  sequence, most-pipe        2..32      n events   unused       unused
+ *     1  sequence, first-pipe       2..32      n events   unused       unused
+ *     2  sequence, first-no-pipe    2..32      n events   unused       unused
+ *     3  time, ignore new start     1..1024    start      test         unused
+ *     4  time, reset on new start   1..1024    start      test         unused
+ *     5  time, error on new start   1..1024    start      test         unused
+ *     6  transition                 0          test       start state  next state
+ *
+ * A port that is not used is declared 0:0.
+ *
+ * A record is N rows of 32 bits and N open words of 64 bits. A row is the sum of its cycle's marks. An open word says which
+ * checks are unfinished after its cycle; a word is possible for a configuration where some trace leaves it.
+ *
+ * Every call answers every input. A refused call writes nothing. A pointer is not read where its length is 0. A lent
+ * buffer that is written must not overlap another buffer of the same call.
+ */
+#ifndef SELVEDGEON_H
+#define SELVEDGEON_H
+
+#include <stddef.h>
+#include <stdint.h>
+
+#ifdef __cplusplus
+extern "C" {
+#endif
+
+/* the marks of a row */
+enum selvedgeon_mark {
+    SELVEDGEON_FAILURE = 1,   /* a check failed */
+    SELVEDGEON_ILLEGAL = 2,   /* an illegal start: a new start in an open window (kind 5) */
+    SELVEDGEON_OPENED = 4,    /* a trigger, a window opened, or the start state seen */
+    SELVEDGEON_CLOSED = 8,    /* a window closed */
+    SELVEDGEON_RESTARTED = 16 /* a window reset by a new start (kind 4) */
+};
+
+/* the refusals: 0 is done. 9 is tested first, then each where it applies, by number */
+enum selvedgeon_refusal {
+    SELVEDGEON_DONE = 0,
+    SELVEDGEON_BAD_KIND = 1,      /* the kind is above 6 */
+    SELVEDGEON_BAD_N = 2,         /* n is outside its limits */
+    SELVEDGEON_BAD_PORTS = 3,     /* an index above 31, a wrong width, or an unused port that is not 0:0 */
+    SELVEDGEON_BAD_TRACE = 4,     /* the trace is no multiple of 4 words, or has more than 65,536 cycles */
+    SELVEDGEON_BAD_LENGTH = 5,    /* another lent slice has not the length that is due */
+    SELVEDGEON_BAD_RANGE = 6,     /* a is above b, or b above N */
+    SELVEDGEON_BAD_WORD = 7,      /* the word to go on from is not possible */
+    SELVEDGEON_LIST_FULL = 8,     /* three words for each entry exceed the list */
+    SELVEDGEON_TOO_MANY = 9       /* more than 64 checkers */
+};
+
+/* a declared range, and a checker of a bench */
+struct selvedgeon_range {
+    uint8_t left;
+    uint8_t right;
+};
+
+struct selvedgeon_config {
+    uint8_t kind;
+    uint32_t n;
+    struct selvedgeon_range p;
+    struct selvedgeon_range q;
+    struct selvedgeon_range r;
+};
+
+/*
+ * One step on one frame. `word` is the open word in eight bytes, least significant first.
+ * Answers 256 times the refusal plus the cycle's row.
+ * Writes: word (the next open word).
+ * Refusals: 1, 2, 3; 5 where word_len is not 8; 7.
+ */
+uint32_t selvedgeon_step(uint8_t kind, uint32_t n, uint8_t p_left, uint8_t p_right, uint8_t q_left, uint8_t q_right,
+                         uint8_t r_left, uint8_t r_right, uint32_t reset, uint32_t p, uint32_t q, uint32_t r,
+                         uint8_t *word, size_t word_len);
+
+/*
+ * The full check of a trace of N cycles.
+ * Answers the refusal.
+ * Writes: rows and words, N entries each (entry t is that of cycle t).
+ * Refusals: 1, 2, 3, 4; 5 where rows_len or words_len is not N.
+ */
+uint32_t selvedgeon_check(uint8_t kind, uint32_t n, uint8_t p_left, uint8_t p_right, uint8_t q_left, uint8_t q_right,
+                          uint8_t r_left, uint8_t r_right, const uint32_t *trace, size_t trace_len, uint32_t *rows,
+                          size_t rows_len, uint64_t *words, size_t words_len);
+
+/*
+ * The recheck of a record after an edit of the trace in cycles a to b-1: rows and words are those of the old trace, the
+ * trace is the edited one.
+ * Answers the refusal.
+ * Writes: rows and words of cycles a to e-1, where e, the cycle where the recheck stopped, is answer[0]; answer[1] to
+ * answer[5] are by how much the counts of the marks 1, 2, 4, 8 and 16 changed.
+ * Refusals: 1, 2, 3, 4; 5 where rows_len or words_len is not N or answer_len is not 6; 6; 7 for the word before cycle a.
+ */
+uint32_t selvedgeon_recheck(uint8_t kind, uint32_t n, uint8_t p_left, uint8_t p_right, uint8_t q_left, uint8_t q_right,
+                            uint8_t r_left, uint8_t r_right, const uint32_t *trace, size_t trace_len, uint32_t *rows,
+                            size_t rows_len, uint64_t *words, size_t words_len, uint64_t a, uint64_t b,
+                            int32_t *answer, size_t answer_len);
+
+/*
+ * How many rows have each mark; other bits of a row are ignored.
+ * Answers the refusal.
+ * Writes: counts, of the marks 1, 2, 4, 8 and 16.
+ * Refusals: 5 where counts_len is not 5, or for more than 65,536 rows.
+ */
+uint32_t selvedgeon_totals(const uint32_t *rows, size_t rows_len, uint32_t *counts, size_t counts_len);
+
+/*
+ * Every failure and illegal start of a trace: three words for each, its cycle, its mark (1 or 2) and its start, ordered by
+ * cycle, mark and start.
+ * Answers 2^32 times the refusal plus the number of entries.
+ * Writes: the first three words for each entry of list; later words stay.
+ * Refusals: 1, 2, 3, 4; 8 where the list is too short.
+ */
+uint64_t selvedgeon_failures(uint8_t kind, uint32_t n, uint8_t p_left, uint8_t p_right, uint8_t q_left, uint8_t q_right,
+                             uint8_t r_left, uint8_t r_right, const uint32_t *trace, size_t trace_len, uint32_t *list,
+                             size_t list_len);
+
+/*
+ * How many checks an open word says are unfinished.
+ * Answers 256 times the refusal plus the count.
+ * Writes nothing.
+ * Refusals: 1, 2, 3, 7.
+ */
+uint32_t selvedgeon_open_count(uint8_t kind, uint32_t n, uint8_t p_left, uint8_t p_right, uint8_t q_left,
+                               uint8_t q_right, uint8_t r_left, uint8_t r_right, uint64_t word);
+
+/*
+ * The first failing cycle (mark 1 or 2) over the rows of several checkers, which lie checker by checker, `cycles` rows
+ * each; of the checkers that fail in it, the first.
+ * Answers 2^32 times the refusal; not refused: 0 for none, else 2^31 + 2^16 times the checker + the cycle.
+ * Writes nothing.
+ * Refusals: 9; 4 for more than 65,536 cycles; 5 where rows_len is not checkers times cycles.
+ */
+uint64_t selvedgeon_first_failure(uint64_t checkers, uint64_t cycles, const uint32_t *rows, size_t rows_len);
+
+/*
+ * One step of each of K checkers, 0 to 64, on its own frame, open word and row. All checkers are tested before the first
+ * is stepped.
+ * Answers 256 times the refusal plus the number of the first bad checker (0 for refusals 9 and 5).
+ * Writes: words (each checker's next open word) and rows.
+ * Refusals: 9; 5 where frames_len is not 4 K, or words_len or rows_len is not K; then for each checker 1, 2, 3, 7.
+ */
+uint32_t selvedgeon_bench(const struct selvedgeon_config *table, size_t table_len, const uint32_t *frames,
+                          size_t frames_len, uint64_t *words, size_t words_len, uint32_t *rows, size_t rows_len);
+
+#ifdef __cplusplus
+}
+#endif
+
+#endif

@@ -1,0 +1,540 @@
+//! One random case of each call: the input is drawn, handed to the library and to the rules, and everything that either of
+//! them answered or left in a buffer is compared.
+
+use crate::generate::{self, Random};
+use crate::host;
+use crate::rules::{self, Config, Edit, Record, MOST_CYCLES};
+use crate::tally::{Call, Tally, NO_KIND};
+use std::fmt::Debug;
+
+type Outcome = Result<(), String>;
+
+/// The greatest trace, the one that is just too long, and the greatest with a word more come up on a fixed schedule.
+#[derive(Clone, Copy, PartialEq, Debug)]
+pub enum Size {
+    Any,
+    Greatest,
+    TooLong,
+    WordMore,
+}
+
+pub struct Case<'a> {
+    pub random: Random,
+    pub size: Size,
+    /// In a careless case faults are frequent, so that several meet in one call: the order of the refusals then decides.
+    pub careless: bool,
+    pub tally: &'a mut Tally,
+}
+
+pub fn same<T: PartialEq + Debug>(what: &str, host: T, rules: T) -> Outcome {
+    if host == rules {
+        return Ok(());
+    }
+    Err(format!("{what}: the library gives {host:?}, the rules give {rules:?}"))
+}
+
+pub fn same_entries<T: PartialEq + Debug>(what: &str, host: &[T], rules: &[T]) -> Outcome {
+    same(&format!("length of {what}"), host.len(), rules.len())?;
+    match host.iter().zip(rules).position(|(h, r)| h != r) {
+        Some(i) => same(&format!("{what}, entry {i} of {}", host.len()), &host[i], &rules[i]),
+        None => Ok(()),
+    }
+}
+
+impl Case<'_> {
+    /// Whether to put in a fault that is due so many times of 1,024.
+    fn fault(&mut self, of_1024: usize) -> bool {
+        self.size == Size::Any && self.random.chance(if self.careless { 300 } else { of_1024 })
+    }
+
+    fn config(&mut self) -> Config {
+        if self.fault(200) {
+            generate::damaged_config(&mut self.random)
+        } else {
+            generate::good_config(&mut self.random)
+        }
+    }
+
+    fn cycles(&mut self, n: u32) -> usize {
+        if self.size != Size::Any {
+            return if self.size == Size::TooLong { MOST_CYCLES + 1 } else { MOST_CYCLES };
+        }
+        if (300..=1024).contains(&n) && self.random.chance(256) {
+            // Long enough that the longest window closes.
+            return 1000 + self.random.below(3000);
+        }
+        match self.random.below(1024) {
+            0..=39 => 0,
+            40..=89 => 1,
+            90..=599 => 2 + self.random.below(40),
+            600..=1015 => 40 + self.random.below(260),
+            _ => 1000 + self.random.below(4000),
+        }
+    }
+
+    /// Most often the length that is due.
+    fn length(&mut self, due: usize) -> usize {
+        if !self.fault(30) {
+            return due;
+        }
+        self.random.pick(&[0, due + 1, due.saturating_sub(1), due + 4, 2 * due + 1, 4 * due])
+    }
+
+    /// Makes some traces a little longer or shorter, so that they are no whole number of frames.
+    fn cut_trace(&mut self, trace: &mut Vec<u32>) {
+        if self.size == Size::WordMore {
+            trace.push(self.random.word());
+        } else if self.fault(40) {
+            let change = 1 + self.random.below(3);
+            let longer = self.random.chance(512);
+            let len = if longer { trace.len() + change } else { trace.len().saturating_sub(change) };
+            trace.resize(len, 1);
+        }
+        self.tally.situation("trace of no multiple of 4 words", trace.len() % 4 != 0);
+    }
+}
+
+pub fn step(case: &mut Case) -> Outcome {
+    let config = case.config();
+    let trace = generate::trace(&mut case.random, config, 1);
+    let frame = [trace[0], trace[1], trace[2], trace[3]];
+    let mut word = case.random.next();
+    if config.refusal() == 0 {
+        word = any_word(&mut case.random, config, 100);
+        if config.kind == 6 && word != 0 && case.random.chance(512) {
+            // The value that passes: it is hit seldom by chance.
+            word = 1 << 32 | u64::from(config.p.value(frame[1]));
+        }
+    }
+    let mut lent = word.to_le_bytes().to_vec();
+    if case.fault(40) {
+        lent.resize(case.random.pick(&[0, 1, 4, 7, 9, 16]), 0);
+    }
+
+    let context = |d| format!("step, {config:?}, frame {frame:x?}, word bytes {lent:x?}: {d}");
+    let (mut bytes, mut expected) = (lent.clone(), lent.clone());
+    let answer = host::step(config, frame, &mut bytes).map_err(context)?;
+    let due = rules::step(config, frame, &mut expected);
+    same("answer", answer, due).and_then(|()| same_entries("word", &bytes, &expected)).map_err(context)?;
+
+    case.tally.case(Call::Step, Some(config.kind), due / 256);
+    if due < 256 {
+        case.tally.rows(Call::Step, config.kind, &[due]);
+    }
+    Ok(())
+}
+
+/// A short trace in full, a longer one by its length: its case can be run again alone.
+fn shown(trace: &[u32]) -> String {
+    if trace.len() <= 160 {
+        format!("trace {trace:x?}")
+    } else {
+        format!("trace of {} words", trace.len())
+    }
+}
+
+/// A possible word, or an impossible one so many times of 1,024.
+fn any_word(random: &mut Random, config: Config, impossible: usize) -> u64 {
+    if random.chance(impossible) {
+        generate::impossible_word(random, config)
+    } else {
+        generate::possible_word(random, config)
+    }
+}
+
+pub fn check(case: &mut Case) -> Outcome {
+    let config = case.config();
+    let cycles = case.cycles(config.n);
+    let mut trace = generate::trace(&mut case.random, config, cycles);
+    case.cut_trace(&mut trace);
+    let (rows_len, words_len) = (case.length(cycles), case.length(cycles));
+    let (mut rows, mut words) = (case.random.words(rows_len), case.random.long_words(words_len));
+    let (mut due_rows, mut due_words) = (rows.clone(), words.clone());
+
+    let context = |d| format!("check, {config:?}, {rows_len} rows, {words_len} words: {d}\n{}", shown(&trace));
+    let answer = host::check(config, &trace, &mut rows, &mut words).map_err(context)?;
+    let due = rules::check(config, &trace, &mut due_rows, &mut due_words);
+    same("answer", answer, due)
+        .and_then(|()| same_entries("rows", &rows, &due_rows))
+        .and_then(|()| same_entries("words", &words, &due_words))
+        .map_err(context)?;
+
+    let tally = &mut case.tally;
+    tally.case(Call::Check, Some(config.kind), due);
+    if due == 0 {
+        tally.rows(Call::Check, config.kind, &rows);
+        tally.situation("check of 0 cycles", cycles == 0);
+        tally.situation("check of 1 cycle", cycles == 1);
+        tally.situation("check of 65,536 cycles", cycles == MOST_CYCLES);
+        tally.situation("window of 1,024 cycles closed", config.n == 1024 && rules::count(&rows, 8) > 0);
+    }
+    tally.situation("check refused 65,537 cycles", due == 4 && case.size == Size::TooLong);
+    tally.situation("trace of 65,536 cycles and one word more", due == 4 && case.size == Size::WordMore);
+    Ok(())
+}
+
+/// The cycles a to b−1 of an edit; sometimes a is above b, or b above N, also by more than 32 bits.
+fn edit_range(case: &mut Case, cycles: usize) -> (u64, u64) {
+    let fault = case.fault(60);
+    let random = &mut case.random;
+    let last = cycles as u64;
+    let a = random.below(cycles + 1) as u64;
+    let b = a + random.below(cycles + 1 - a as usize) as u64;
+    let above_b = [(b + 1, a), (last + 1, last), (u64::MAX, a), (a + (1 << 32), b)];
+    let above_last = [(a, last + 1), (a, b + (1 << 32)), (0, u64::MAX), (u64::MAX, u64::MAX), (last + 1, last + 1)];
+    if fault {
+        return if random.chance(512) { random.pick(&above_b) } else { random.pick(&above_last) };
+    }
+    match random.below(30) {
+        0..=3 => (a, a),
+        4 => (0, 0),
+        5 => (last, last),
+        6..=8 => (0, b),
+        9..=11 => (a, last),
+        12..=13 => (0, last),
+        14..=25 => (a, (a + 1 + random.below(3) as u64).min(last)),
+        _ => (a, b),
+    }
+}
+
+/// A record that need not be true: a few entries damaged, all of them random, some words impossible, or that of another trace.
+fn false_record(random: &mut Random, config: Config, old: &[u32]) -> Record {
+    let cycles = old.len() / 4;
+    let mut record = rules::true_record(config, old);
+    match random.below(4) {
+        0 => {
+            for _ in 0..random.below(4).min(cycles) {
+                let (row, word) = (random.below(cycles), random.below(cycles));
+                record.rows[row] = random.word();
+                record.words[word] = any_word(random, config, 300);
+            }
+        }
+        1 => record.words = (0..cycles).map(|_| any_word(random, config, 0)).collect(),
+        2 => record.words = (0..cycles).map(|_| any_word(random, config, 200)).collect(),
+        _ => {
+            let other = generate::trace(random, config, cycles);
+            record = rules::true_record(config, &other);
+        }
+    }
+    if random.chance(512) {
+        record.rows = random.words(cycles);
+    }
+    record
+}
+
+/// The buffers of a recheck.
+#[derive(Clone)]
+struct Lent {
+    rows: Vec<u32>,
+    words: Vec<u64>,
+    answer: Vec<i32>,
+}
+
+impl Lent {
+    fn same_as(&self, rules: &Lent) -> Outcome {
+        same_entries("changes and e", &self.answer, &rules.answer)?;
+        same_entries("rows", &self.rows, &rules.rows)?;
+        same_entries("words", &self.words, &rules.words)
+    }
+}
+
+pub fn recheck(case: &mut Case) -> Outcome {
+    let config = case.config();
+    let cycles = case.cycles(config.n);
+    let old = generate::trace(&mut case.random, config, cycles);
+    let (a, b) = edit_range(case, cycles);
+    let mut trace = old.clone();
+    if config.refusal() == 0 && a <= b && b <= cycles as u64 {
+        trace = generate::edited(&mut case.random, config, &old, a as usize, b as usize);
+    }
+    let is_true = config.refusal() == 0 && case.random.chance(640);
+    let kept = if is_true {
+        rules::true_record(config, &old)
+    } else if config.refusal() == 0 {
+        false_record(&mut case.random, config, &old)
+    } else {
+        Record { rows: case.random.words(cycles), words: case.random.long_words(cycles) }
+    };
+    case.cut_trace(&mut trace);
+    let mut lent = Lent { rows: kept.rows, words: kept.words, answer: vec![0; case.length(6)] };
+    lent.answer.iter_mut().for_each(|entry| *entry = case.random.word() as i32);
+    lent.rows.resize(case.length(cycles), 5);
+    lent.words.resize(case.length(cycles), 1);
+    compare_recheck(case, &Edit { config, trace: &trace, a, b }, lent, is_true)
+}
+
+fn compare_recheck(case: &mut Case, edit: &Edit, lent: Lent, is_true: bool) -> Outcome {
+    let context = |d: String| {
+        let lengths = [lent.rows.len(), lent.words.len(), lent.answer.len()];
+        let (config, a, b, trace) = (edit.config, edit.a, edit.b, shown(edit.trace));
+        format!("recheck, {config:?}, a {a}, b {b}, true record {is_true}, lengths {lengths:?}: {d}\n{trace}")
+    };
+    let (mut given, mut due) = (lent.clone(), lent.clone());
+    let answer = host::recheck(edit, &mut given.rows, &mut given.words, &mut given.answer).map_err(context)?;
+    let refusal = if is_true {
+        edit.recheck_true(&mut due.rows, &mut due.words, &mut due.answer)
+    } else {
+        edit.recheck_any(&mut due.rows, &mut due.words, &mut due.answer)
+    };
+    same("refusal", answer, refusal).and_then(|()| given.same_as(&due)).map_err(context)?;
+    if is_true && refusal == 0 {
+        true_record_claims(edit, &lent, &due).map_err(context)?;
+    }
+    tally_recheck(case.tally, edit, &lent, &due, refusal, is_true);
+    Ok(())
+}
+
+/// What the document says of true records besides: the latest e, and that a recheck one step for each cycle gives the same.
+fn true_record_claims(edit: &Edit, lent: &Lent, due: &Lent) -> Outcome {
+    let e = due.answer[0] as u64;
+    if edit.latest_end().is_some_and(|latest| e > latest) {
+        return Err(format!("e is {e}, above {:?}", edit.latest_end()));
+    }
+    let mut stepped = lent.clone();
+    if lent.rows.len() <= 300 {
+        let refusal = edit.recheck_any(&mut stepped.rows, &mut stepped.words, &mut stepped.answer);
+        if refusal != 0 || stepped.same_as(due).is_err() {
+            return Err(format!("the rules' own rechecks differ: e and changes {:?} and {:?}", stepped.answer, due.answer));
+        }
+    }
+    Ok(())
+}
+
+fn tally_recheck(tally: &mut Tally, edit: &Edit, lent: &Lent, due: &Lent, refusal: u32, is_true: bool) {
+    let (kind, last) = (edit.config.kind, (edit.trace.len() / 4) as u64);
+    tally.case(Call::Recheck, Some(kind), refusal);
+    tally.situation("recheck, a above b", refusal == 6 && edit.a > edit.b);
+    tally.situation("recheck, b above N", refusal == 6 && edit.a <= edit.b);
+    if refusal != 0 {
+        return;
+    }
+    let e = due.answer[0] as u64;
+    let (a, b) = (edit.a as usize, edit.b as usize);
+    tally.rows(Call::Recheck, kind, &due.rows[a..e as usize]);
+    tally.situation("recheck of 65,536 cycles", last == 65_536);
+    tally.situation("recheck, a = b = N = 0", last == 0);
+    tally.situation("recheck, a = b", a == b);
+    tally.situation("recheck of the whole trace", a == 0 && edit.b == last && last > 0);
+    let beyond = lent.words[a..].iter().any(|word| !edit.config.possible(*word));
+    tally.situation("recheck, impossible kept word after a", beyond);
+    let ends = [e == edit.b, e > edit.b && e < last, e > edit.b && e == last];
+    if is_true {
+        tally.situation("recheck, true record, e = b", ends[0]);
+        tally.situation("recheck, true record, e between b and N", ends[1]);
+        tally.situation("recheck, true record, e = N above b", ends[2]);
+        let unlimited = matches!(kind, 2 | 3 | 5) && e > edit.b + u64::from(edit.config.n);
+        tally.situation("recheck, true record, e above b + n, kinds 2, 3, 5", unlimited);
+    } else {
+        tally.situation("recheck, false record, e = b", ends[0]);
+        tally.situation("recheck, false record, e between b and N", ends[1]);
+        tally.situation("recheck, false record, e = N above b", ends[2]);
+    }
+}
+
+pub fn totals(case: &mut Case) -> Outcome {
+    let rows_len = case.cycles(0);
+    let mask = case.random.pick(&[u32::MAX, 31, 3, 0, 1 << 4, !31]);
+    let fixed = case.random.pick(&[0, 0, 0, 31, u32::MAX]);
+    let rows: Vec<u32> = (0..rows_len).map(|_| case.random.word() & mask | fixed).collect();
+    let counts_len = case.length(5);
+    let mut counts = case.random.words(counts_len);
+    let mut expected = counts.clone();
+
+    let context = |d| format!("totals, {rows_len} rows, {counts_len} counts: {d}");
+    let answer = host::totals(&rows, &mut counts).map_err(context)?;
+    let due = rules::totals(&rows, &mut expected);
+    same("answer", answer, due).and_then(|()| same_entries("counts", &counts, &expected)).map_err(context)?;
+
+    case.tally.case(Call::Totals, None, due);
+    if due == 0 {
+        case.tally.rows(Call::Totals, NO_KIND, &rows);
+    }
+    case.tally.situation("totals of 65,536 rows", due == 0 && rows_len == MOST_CYCLES);
+    case.tally.situation("totals refused 65,537 rows", due == 5 && rows_len > MOST_CYCLES && counts_len == 5);
+    Ok(())
+}
+
+pub fn failures(case: &mut Case) -> Outcome {
+    let config = case.config();
+    let cycles = case.cycles(config.n);
+    let mut trace = generate::trace(&mut case.random, config, cycles);
+    case.cut_trace(&mut trace);
+    let refused = config.refusal() != 0 || trace.len() % 4 != 0 || cycles > MOST_CYCLES;
+    let needed = if refused { 0 } else { 3 * rules::entries(config, &trace).len() };
+    let more = needed + 1 + case.random.below(40);
+    let list_len = case.random.pick(&[needed, needed, more, more, needed.saturating_sub(1), needed.saturating_sub(3), 0]);
+    let mut list = case.random.words(list_len);
+    let mut expected = list.clone();
+
+    let context = |d| format!("failures, {config:?}, list of {list_len}: {d}\n{}", shown(&trace));
+    let answer = host::failures(config, &trace, &mut list).map_err(context)?;
+    let due = rules::failures(config, &trace, &mut expected);
+    same("answer", answer, due).and_then(|()| same_entries("list", &list, &expected)).map_err(context)?;
+
+    let refusal = (due >> 32) as u32;
+    case.tally.case(Call::Failures, Some(config.kind), refusal);
+    if refusal == 0 {
+        let marks: Vec<u32> = list[..needed].chunks_exact(3).map(|entry| entry[1]).collect();
+        case.tally.rows(Call::Failures, config.kind, &marks);
+        case.tally.situation("failures of 65,536 cycles", cycles == MOST_CYCLES);
+        let longest = |entry: &[u32]| config.is_sequence() && entry[0] - entry[2] == 31;
+        case.tally.situation("attempt failed in its 32nd cycle", list[..needed].chunks_exact(3).any(longest));
+    }
+    case.tally.situation("failures, list exactly long enough", refusal == 0 && needed > 0 && list_len == needed);
+    case.tally.situation("failures, list longer", refusal == 0 && needed > 0 && list_len > needed);
+    case.tally.situation("failures, list one word short", refusal == 8 && list_len + 1 == needed);
+    Ok(())
+}
+
+pub fn open_count(case: &mut Case) -> Outcome {
+    let config = case.config();
+    let mut word = case.random.next();
+    if config.refusal() == 0 {
+        word = any_word(&mut case.random, config, 200);
+    }
+    let due = rules::open_count(config, word);
+    same("answer", host::open_count(config, word), due)
+        .map_err(|d| format!("open count, {config:?}, word {word:#x}: {d}"))?;
+    case.tally.case(Call::OpenCount, Some(config.kind), due / 256);
+    Ok(())
+}
+
+/// K and N of a first failure, at the limits and beyond them.
+fn checkers_and_cycles(case: &mut Case) -> (u64, u64) {
+    let any_checkers = case.random.below(66) as u64;
+    match case.size {
+        Size::Greatest => (64, 65_536),
+        Size::TooLong => (case.random.pick(&[0, 1, 2]), 65_537),
+        Size::WordMore => (case.random.pick(&[0, 1, 2]), 65_536),
+        Size::Any => {
+            let checkers = case.random.pick(&[0, 1, 1, 2, 2, 3, 7, 63, 64, 65, any_checkers, any_checkers, any_checkers]);
+            let cycles = case.random.pick(&[0, 1, 2, 5, 20, 20, 50, 200, 999]);
+            match case.random.below(64) {
+                0 => (checkers, random_above(case, 65_536)),
+                1 => (random_above(case, 64), cycles),
+                2 => (random_above(case, 64), random_above(case, 65_536)),
+                _ => (checkers, cycles),
+            }
+        }
+    }
+}
+
+fn random_above(case: &mut Case, limit: u64) -> u64 {
+    let any = case.random.next() | 1 << 33;
+    case.random.pick(&[limit + 1, 1 << 32, 1 << 63, u64::MAX, any])
+}
+
+/// Rows with any bits besides the two marks that count; how often these occur is drawn for each case.
+fn rows_with_failures(random: &mut Random, len: usize) -> Vec<u32> {
+    let often = random.pick(&[0, 0, 1, 10, 512]);
+    let noise = random.pick(&[0, u32::MAX, u32::MAX]) & !3;
+    let mut rows: Vec<u32> = (0..len).map(|_| random.word() & noise).collect();
+    for row in rows.iter_mut() {
+        if often > 0 && random.chance(often) {
+            *row |= 1 + random.below(3) as u32;
+        }
+    }
+    if let (0, true, Some(last)) = (often, random.chance(512), rows.last_mut()) {
+        *last |= 1 + random.below(3) as u32;
+    }
+    rows
+}
+
+pub fn first_failure(case: &mut Case) -> Outcome {
+    let (checkers, cycles) = checkers_and_cycles(case);
+    let rows_due = checkers.min(70) as usize * cycles.min(65_537) as usize;
+    let rows_len = case.length(rows_due);
+    let rows = rows_with_failures(&mut case.random, rows_len);
+
+    let context = |d| format!("first failure, K {checkers}, N {cycles}, {rows_len} rows: {d}");
+    let answer = host::first_failure(checkers, cycles, &rows).map_err(context)?;
+    let due = rules::first_failure(checkers, cycles, &rows);
+    same("answer", answer, due).map_err(context)?;
+
+    let tally = &mut case.tally;
+    let refusal = (due >> 32) as u32;
+    tally.case(Call::FirstFailure, None, refusal);
+    tally.checkers(Call::FirstFailure, checkers.min(1000) as usize);
+    if refusal == 0 && due != 0 {
+        let (checker, cycle) = ((due >> 16 & 0x7fff) as usize, (due & 0xffff) as usize);
+        tally.rows(Call::FirstFailure, NO_KIND, &[rows[checker * cycles as usize + cycle] & 3]);
+        let earlier = rows[..rows_len - 1].iter().all(|row| row & 3 == 0);
+        tally.situation("first failure, in the last row only", earlier && rows_len > 1);
+    }
+    tally.situation("first failure, none", due == 0 && rows_len > 0);
+    tally.situation("first failure, 64 checkers of 65,536 cycles", refusal == 0 && rows_len == 64 * MOST_CYCLES);
+    tally.situation("first failure refused 65,537 cycles", refusal == 4 && cycles == 65_537);
+    Ok(())
+}
+
+/// The lent buffers of a bench, with good checkers and possible words.
+struct Bench {
+    table: Vec<Config>,
+    frames: Vec<u32>,
+    words: Vec<u64>,
+}
+
+fn good_bench(random: &mut Random, checkers: usize) -> Bench {
+    let mut bench = Bench { table: Vec::new(), frames: Vec::new(), words: Vec::new() };
+    for _ in 0..checkers {
+        let config = generate::good_config(random);
+        bench.table.push(config);
+        bench.frames.extend(generate::trace(random, config, 1));
+        bench.words.push(generate::possible_word(random, config));
+    }
+    bench
+}
+
+/// Spoils so many checkers, each by its configuration or by its word. The last is spoiled as often as all others together.
+fn spoil_bench(random: &mut Random, bench: &mut Bench, bad: usize) {
+    for _ in 0..bad {
+        let last = bench.table.len() - 1;
+        let any = random.below(last + 1);
+        let k = random.pick(&[last, any]);
+        if bench.table[k].refusal() == 0 && random.chance(400) {
+            bench.words[k] = generate::impossible_word(random, bench.table[k]);
+        } else {
+            bench.table[k] = generate::damaged_config(random);
+        }
+    }
+}
+
+pub fn bench(case: &mut Case) -> Outcome {
+    let any = case.random.below(65);
+    let checkers = case.random.pick(&[0, 1, 2, 3, 5, 63, 64, 64, 65, 66 + any, any, any]);
+    let mut bench = good_bench(&mut case.random, checkers);
+    let bad = if checkers == 0 { 0 } else { case.random.pick(&[0, 0, 1, 1, 2, 4]) };
+    spoil_bench(&mut case.random, &mut bench, bad);
+    let Bench { table, mut frames, mut words } = bench;
+    frames.resize(case.length(4 * checkers), 1);
+    words.resize(case.length(checkers), 0);
+    let rows_len = case.length(checkers);
+    let mut rows = case.random.words(rows_len);
+    let (mut due_words, mut due_rows) = (words.clone(), rows.clone());
+
+    let context = |d| format!("bench of {checkers}, {} frame words, {rows_len} rows: {d}\ntable {table:?}", frames.len());
+    let answer = host::bench(&table, &frames, &mut words, &mut rows).map_err(context)?;
+    let due = rules::bench(&table, &frames, &mut due_words, &mut due_rows);
+    same("answer", answer, due)
+        .and_then(|()| same_entries("words", &words, &due_words))
+        .and_then(|()| same_entries("rows", &rows, &due_rows))
+        .map_err(context)?;
+    tally_bench(case.tally, &table, &words, &rows, due);
+    Ok(())
+}
+
+fn tally_bench(tally: &mut Tally, table: &[Config], words: &[u64], rows: &[u32], answer: u32) {
+    let refusal = answer / 256;
+    tally.case(Call::Bench, None, refusal);
+    tally.checkers(Call::Bench, table.len());
+    if refusal == 0 {
+        for (config, row) in table.iter().zip(rows) {
+            tally.kind(Call::Bench, config.kind);
+            tally.rows(Call::Bench, config.kind, &[*row]);
+        }
+    }
+    let is_bad = |(config, word): (&Config, &u64)| config.refusal() != 0 || !config.possible(*word);
+    let bad = table.iter().zip(words).filter(|pair| is_bad(*pair)).count();
+    tally.situation("bench, several bad checkers", bad > 1 && matches!(refusal, 1 | 2 | 3 | 7));
+    tally.situation("bench, bad checker last of 64", table.len() == 64 && answer % 256 == 63);
+}

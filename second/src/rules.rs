@@ -1,0 +1,606 @@
+//! The rules of document 01 as a search over starts. A full check looks, for every cycle, for the starts that matter in it;
+//! a step from an open word builds a trace that leaves this word and asks the same search about its last cycle.
+//! The sentence of the document that a function follows is quoted above it.
+
+pub const MARKS: [u32; 5] = [1, 2, 4, 8, 16];
+pub const MOST_CYCLES: usize = 65_536;
+pub const MOST_CHECKERS: usize = 64;
+const STORED: u64 = 1 << 32;
+
+pub type Frame = [u32; 4];
+
+#[derive(Clone, Copy, Debug, PartialEq, Eq)]
+pub struct Range {
+    pub left: u8,
+    pub right: u8,
+}
+
+#[derive(Clone, Copy, Debug, PartialEq, Eq)]
+pub struct Config {
+    pub kind: u8,
+    pub n: u32,
+    pub p: Range,
+    pub q: Range,
+    pub r: Range,
+}
+
+impl Range {
+    /// "its width is the distance plus 1"
+    pub fn width(self) -> u32 {
+        u32::from(self.left.abs_diff(self.right)) + 1
+    }
+
+    /// "Bit k of the value is wire right+k when left ≥ right, and wire right−k otherwise."
+    pub fn wire(self, k: u32) -> u32 {
+        if self.left >= self.right {
+            u32::from(self.right) + k
+        } else {
+            u32::from(self.right) - k
+        }
+    }
+
+    /// "Wires outside the range are ignored."
+    pub fn value(self, word: u32) -> u32 {
+        (0..self.width()).map(|k| (word >> self.wire(k) & 1) << k).sum()
+    }
+}
+
+impl Config {
+    pub fn is_sequence(self) -> bool {
+        self.kind <= 2
+    }
+
+    pub fn is_time(self) -> bool {
+        (3..=5).contains(&self.kind)
+    }
+
+    /// The limits of n in the table of kinds.
+    pub fn limits(self) -> (u32, u32) {
+        if self.is_sequence() {
+            (2, 32)
+        } else if self.is_time() {
+            (1, 1024)
+        } else {
+            (0, 0)
+        }
+    }
+
+    /// The ports column of the table of kinds; None is an unused port.
+    fn widths_due(self) -> [Option<u32>; 3] {
+        if self.is_sequence() {
+            [Some(self.n), None, None]
+        } else if self.is_time() {
+            [Some(1), Some(1), None]
+        } else {
+            [Some(self.p.width()); 3]
+        }
+    }
+
+    /// Refusals 1 to 3: "kind above 6", "n outside its limits", "index above 31, wrong width, or unused port not 0:0".
+    pub fn refusal(self) -> u32 {
+        let (least, most) = self.limits();
+        let ports = [self.p, self.q, self.r];
+        if self.kind > 6 {
+            1
+        } else if self.n < least || self.n > most {
+            2
+        } else if !ports.iter().zip(self.widths_due()).all(|(&port, due)| port_is_right(port, due)) {
+            3
+        } else {
+            0
+        }
+    }
+
+    /// "A word is possible when: kinds 0 and 1, below 2^(n−1); kind 2, also at most one bit set; kinds 3 to 5, at most n;
+    /// kind 6, 0 or 2^32 plus a value that fits the width."
+    pub fn possible(self, word: u64) -> bool {
+        match self.kind {
+            0 | 1 => word < 1 << (self.n - 1),
+            2 => word == 0 || (0..self.n - 1).any(|j| word == 1 << j),
+            3..=5 => word <= u64::from(self.n),
+            _ => word == 0 || (STORED..STORED + (1 << self.p.width())).contains(&word),
+        }
+    }
+}
+
+/// "A port has a declared range left:right, each 0 to 31"; "An unused port must be 0:0."
+fn port_is_right(port: Range, due: Option<u32>) -> bool {
+    match due {
+        Some(width) => port.left <= 31 && port.right <= 31 && port.width() == width,
+        None => port.left == 0 && port.right == 0,
+    }
+}
+
+/// What the rules say of one cycle. The starts are kept because the failure list names them.
+#[derive(Default)]
+struct Verdict {
+    failed: Vec<usize>,
+    illegal: Option<usize>,
+    opened: bool,
+    closed: bool,
+    restarted: bool,
+    word: u64,
+}
+
+impl Verdict {
+    /// "A row holds a cycle's marks, summed: 1 failure; 2 illegal start; 4 trigger, window opened, or start state seen;
+    /// 8 window closed; 16 window reset."
+    fn row(&self) -> u32 {
+        let has = [!self.failed.is_empty(), self.illegal.is_some(), self.opened, self.closed, self.restarted];
+        MARKS.iter().zip(has).filter(|(_, has)| *has).map(|(mark, _)| mark).sum()
+    }
+}
+
+/// An accepted attempt of a cycle sequence: alive through start + lived − 1, and no further.
+struct Attempt {
+    start: usize,
+    lived: usize,
+}
+
+/// A trace as one checker reads it, with the starts that were accepted.
+struct History {
+    config: Config,
+    p: Vec<u32>,
+    q: Vec<u32>,
+    r: Vec<u32>,
+    /// How many cycles without a reset end with this one; 0 in a cycle with reset.
+    running: Vec<usize>,
+    attempts: Vec<Attempt>,
+    /// Time: the cycles from which n pending cycles were counted.
+    counted: Vec<usize>,
+}
+
+impl History {
+    fn new(config: Config, trace: &[u32]) -> History {
+        let port = |i: usize, range: Range| trace.chunks_exact(4).map(|frame| range.value(frame[i])).collect();
+        let mut history = History {
+            config,
+            p: port(1, config.p),
+            q: port(2, config.q),
+            r: port(3, config.r),
+            running: Vec::new(),
+            attempts: Vec::new(),
+            counted: Vec::new(),
+        };
+        for frame in trace.chunks_exact(4) {
+            let before = history.running.last().copied().unwrap_or(0);
+            history.running.push(if frame[0] & 1 == 1 { before + 1 } else { 0 });
+        }
+        for s in 0..history.p.len() {
+            if history.running[s] > 0 {
+                history.accept(s);
+            }
+        }
+        history
+    }
+
+    fn accept(&mut self, s: usize) {
+        if self.config.is_sequence() && self.accepts_attempt(s) {
+            let attempt = Attempt { start: s, lived: self.lived(s) };
+            self.attempts.push(attempt);
+        } else if self.config.is_time() && self.counts_from(s) {
+            self.counted.push(s);
+        }
+    }
+
+    /// "A cycle with reset_n 0 has row 0 and open word 0, and ends every check."
+    fn no_reset(&self, s: usize, t: usize) -> bool {
+        self.running[t] > t - s
+    }
+
+    fn verdict(&self, t: usize) -> Verdict {
+        if self.running[t] == 0 {
+            Verdict::default()
+        } else if self.config.is_sequence() {
+            self.sequence(t)
+        } else if self.config.is_time() {
+            self.time(t)
+        } else {
+            self.transition(t)
+        }
+    }
+
+    fn event(&self, t: usize, bit: usize) -> bool {
+        self.p[t] >> bit & 1 == 1
+    }
+
+    /// "It is alive through s+j when event bit n−1−i was 1 at s+i for each i from 0 to j, with no reset between."
+    /// The answer is how many such j there are.
+    fn lived(&self, s: usize) -> usize {
+        let n = self.config.n as usize;
+        let end = self.p.len().min(s + n);
+        (s..end).take_while(|&t| self.running[t] > 0 && self.event(t, n - 1 - (t - s))).count()
+    }
+
+    /// "An attempt starts at s when event bit n−1 is 1." "Kinds 0 and 1 accept every start. Kind 2 ignores a start in any
+    /// cycle where an accepted attempt alive through the cycle before is still being tested, also its last cycle and also
+    /// the cycle where it fails"
+    fn accepts_attempt(&self, s: usize) -> bool {
+        let n = self.config.n as usize;
+        let tested = |attempt: &Attempt| s - attempt.start <= n - 1 && attempt.start + attempt.lived >= s;
+        self.event(s, n - 1) && !(self.config.kind == 2 && self.attempts.last().is_some_and(tested))
+    }
+
+    /// The accepted attempts that can matter in t: those that started in t−(n−1) to t.
+    fn recent_attempts(&self, t: usize) -> &[Attempt] {
+        let first = (t + 1).saturating_sub(self.config.n as usize);
+        let from = self.attempts.partition_point(|attempt| attempt.start < first);
+        let to = self.attempts.partition_point(|attempt| attempt.start <= t);
+        &self.attempts[from..to]
+    }
+
+    /// "Kinds 1 and 2 fail at s+j, j from 1 to n−1, when the attempt was alive through s+j−1 and bit n−1−j is 0. Kind 0
+    /// fails only for j = n−1. Mark 4: kinds 1 and 2 at an accepted start, kind 0 when an attempt is alive through s+n−2.
+    /// Bit j of the open word after t, j from 0 to n−2, is 1 exactly when an accepted attempt from t−j is alive through t."
+    fn sequence(&self, t: usize) -> Verdict {
+        let n = self.config.n as usize;
+        let mut verdict = Verdict::default();
+        for attempt in self.recent_attempts(t) {
+            let j = t - attempt.start;
+            let alive = attempt.lived > j;
+            let fails_here = if self.config.kind == 0 { j == n - 1 } else { j >= 1 };
+            if fails_here && attempt.lived == j {
+                verdict.failed.push(attempt.start);
+            }
+            if alive && j == if self.config.kind == 0 { n - 2 } else { 0 } {
+                verdict.opened = true;
+            }
+            if alive && j <= n - 2 {
+                verdict.word |= 1 << j;
+            }
+        }
+        verdict
+    }
+
+    /// "With nothing pending, start 1 at s opens a check"; "kind 3 ignores it; kind 4 […] counts n cycles afresh from there;
+    /// kind 5 […] carries on."
+    fn counts_from(&self, s: usize) -> bool {
+        self.p[s] == 1 && (self.config.kind == 4 || self.pending(s).is_none())
+    }
+
+    /// "It is pending in s+1 to s+n". The answer is the start from which the check pending in t counts.
+    fn pending(&self, t: usize) -> Option<usize> {
+        let before = self.counted.partition_point(|&s| s < t);
+        let s = *self.counted[..before].last()?;
+        (t - s <= self.config.n as usize && self.no_reset(s, t)).then_some(s)
+    }
+
+    fn time(&self, t: usize) -> Verdict {
+        match self.pending(t) {
+            Some(s) => self.pending_cycle(s, t),
+            None => self.idle_cycle(t),
+        }
+    }
+
+    /// "With nothing pending, start 1 at s opens a check (mark 4); test is not sampled at s."
+    fn idle_cycle(&self, t: usize) -> Verdict {
+        let opened = self.p[t] == 1;
+        Verdict { opened, word: if opened { u64::from(self.config.n) } else { 0 }, ..Verdict::default() }
+    }
+
+    /// "test 0 in such a cycle is a failure and does not end it. At s+n mark 8 is set, failed or not, and the check is over.
+    /// Start 1 while pending: kind 3 ignores it; kind 4 sets mark 16 only, takes no test, and counts n cycles afresh from
+    /// there; kind 5 sets mark 2, tests as usual and carries on. The open word is the number of pending cycles left."
+    fn pending_cycle(&self, s: usize, t: usize) -> Verdict {
+        let n = self.config.n as usize;
+        let start = self.p[t] == 1;
+        if start && self.config.kind == 4 {
+            return Verdict { restarted: true, word: n as u64, ..Verdict::default() };
+        }
+        Verdict {
+            failed: if self.q[t] == 0 { vec![s] } else { Vec::new() },
+            illegal: (start && self.config.kind == 5).then_some(s),
+            closed: t == s + n,
+            word: (s + n - t) as u64,
+            ..Verdict::default()
+        }
+    }
+
+    /// "When test equals start state, mark 4 is set and next state is stored. At the next cycle, test different from the
+    /// stored value is a failure; the same cycle may start again. […] The open word is 0, or 2^32 plus the stored value."
+    fn transition(&self, t: usize) -> Verdict {
+        let seen = |s: usize| self.running[s] > 0 && self.p[s] == self.q[s];
+        let failed = t > 0 && seen(t - 1) && self.p[t] != self.r[t - 1];
+        Verdict {
+            failed: if failed { vec![t - 1] } else { Vec::new() },
+            opened: seen(t),
+            word: if seen(t) { STORED + u64::from(self.r[t]) } else { 0 },
+            ..Verdict::default()
+        }
+    }
+}
+
+/// Rows and open words: "entry t is after cycle t".
+pub struct Record {
+    pub rows: Vec<u32>,
+    pub words: Vec<u64>,
+}
+
+/// "A trace's true record under a configuration is the rows and words that the rules above give"
+pub fn true_record(config: Config, trace: &[u32]) -> Record {
+    let history = History::new(config, trace);
+    let mut record = Record { rows: Vec::new(), words: Vec::new() };
+    for t in 0..trace.len() / 4 {
+        let verdict = history.verdict(t);
+        record.rows.push(verdict.row());
+        record.words.push(verdict.word);
+    }
+    record
+}
+
+/// Some trace that leaves a possible word.
+fn trace_that_leaves(config: Config, word: u64) -> Vec<u32> {
+    let mut trace = Vec::new();
+    if config.is_sequence() {
+        // Bit j of the word is an attempt from t−j, with t = n−2 the last cycle: its wires are set and no others, so that
+        // no second attempt starts.
+        let n = config.n as usize;
+        trace = [1, 0, 0, 0].repeat(n - 1);
+        for j in (0..n - 1).filter(|j| word >> j & 1 == 1) {
+            for i in 0..=j {
+                trace[4 * (n - 2 - j + i) + 1] |= 1 << config.p.wire((n - 1 - i) as u32);
+            }
+        }
+    } else if config.is_time() && word > 0 {
+        // One start, then as many quiet cycles as leave this many pending ones.
+        trace = vec![1, 1 << config.p.wire(0), 0, 0];
+        trace.extend([1, 0, 1 << config.q.wire(0), 0].repeat(config.n as usize - word as usize));
+    } else if config.kind == 6 && word > 0 {
+        // Test and start state are 0, so they are equal.
+        let next = word - STORED;
+        let wires = (0..config.r.width()).filter(|k| next >> k & 1 == 1).map(|k| 1u32 << config.r.wire(k)).sum();
+        trace = vec![1, 0, 0, wires];
+    }
+    trace
+}
+
+/// "Some trace leaves each such word; a step from it answers as the rules do after that trace."
+pub fn one_step(config: Config, word: u64, frame: Frame) -> (u32, u64) {
+    let mut trace = trace_that_leaves(config, word);
+    trace.extend(frame);
+    let verdict = History::new(config, &trace).verdict(trace.len() / 4 - 1);
+    (verdict.row(), verdict.word)
+}
+
+/// Refusals 1 to 3, then 7: "the word to go on from is not possible".
+fn step_refusal(config: Config, word: u64) -> u32 {
+    match config.refusal() {
+        0 if !config.possible(word) => 7,
+        refusal => refusal,
+    }
+}
+
+/// "one step is also offered on numbers and a lent 8-byte word, least significant byte first; it writes the next word there
+/// and answers 256 times the refusal number plus the row."
+pub fn step(config: Config, frame: Frame, bytes: &mut [u8]) -> u32 {
+    let refusal = config.refusal();
+    if refusal != 0 {
+        return 256 * refusal;
+    }
+    let Ok(lent) = <[u8; 8]>::try_from(&*bytes) else { return 256 * 5 };
+    let word = u64::from_le_bytes(lent);
+    if !config.possible(word) {
+        return 256 * 7;
+    }
+    let (row, next) = one_step(config, word, frame);
+    bytes.copy_from_slice(&next.to_le_bytes());
+    row
+}
+
+/// Refusal 4: "trace not a multiple of 4 words, or N above 65,536"
+fn trace_refusal(config: Config, trace: &[u32]) -> u32 {
+    match config.refusal() {
+        0 if trace.len() % 4 != 0 || trace.len() / 4 > MOST_CYCLES => 4,
+        refusal => refusal,
+    }
+}
+
+/// "Full check: fills N rows of 32 bits and N open words of 64 bits"
+pub fn check(config: Config, trace: &[u32], rows: &mut [u32], words: &mut [u64]) -> u32 {
+    let refusal = trace_refusal(config, trace);
+    if refusal != 0 {
+        return refusal;
+    }
+    if rows.len() != trace.len() / 4 || words.len() != trace.len() / 4 {
+        return 5;
+    }
+    let record = true_record(config, trace);
+    rows.copy_from_slice(&record.rows);
+    words.copy_from_slice(&record.words);
+    0
+}
+
+/// "before cycle 0 both are 0"
+fn word_before(words: &[u64], t: usize) -> u64 {
+    if t == 0 {
+        0
+    } else {
+        words[t - 1]
+    }
+}
+
+/// What a recheck is handed.
+pub struct Edit<'a> {
+    pub config: Config,
+    pub trace: &'a [u32],
+    pub a: u64,
+    pub b: u64,
+}
+
+impl Edit<'_> {
+    /// Refusals 1 to 7 "by number": 5 "another lent slice has not the length that is due", 6 "a above b, or b above N",
+    /// 7 "the word to go on from is not possible".
+    pub fn refusal(&self, rows: &[u32], words: &[u64], answer: &[i32]) -> u32 {
+        let cycles = self.trace.len() / 4;
+        let refusal = trace_refusal(self.config, self.trace);
+        if refusal != 0 {
+            refusal
+        } else if rows.len() != cycles || words.len() != cycles || answer.len() != 6 {
+            5
+        } else if self.a > self.b || self.b > cycles as u64 {
+            6
+        } else if !self.config.possible(word_before(words, self.a as usize)) {
+            7
+        } else {
+            0
+        }
+    }
+
+    /// The recheck of a true record: everything is checked again. "It ends at e, the least cycle from b to N such that e is N
+    /// or its word before e equals the kept one"; the changes are those "over all N rows".
+    pub fn recheck_true(&self, rows: &mut [u32], words: &mut [u64], answer: &mut [i32]) -> u32 {
+        let refusal = self.refusal(rows, words, answer);
+        if refusal != 0 {
+            return refusal;
+        }
+        let new = true_record(self.config, self.trace);
+        let last = rows.len();
+        let same = |e: &usize| *e == last || word_before(&new.words, *e) == word_before(words, *e);
+        let e = (self.b as usize..=last).find(same).unwrap_or(last);
+        write_answer(e, rows, &new.rows, answer);
+        rows.copy_from_slice(&new.rows);
+        words.copy_from_slice(&new.words);
+        0
+    }
+
+    /// The recheck of any record: "goes on from kept word a−1 (0 when a is 0), one step for each cycle of the lent trace from
+    /// a on. It ends at e, the least cycle from b to N such that e is N or its word before e equals the kept one […]. It
+    /// writes a to e−1 only. It answers e and five signed changes, one per mark: new count less old count over a to e−1".
+    pub fn recheck_any(&self, rows: &mut [u32], words: &mut [u64], answer: &mut [i32]) -> u32 {
+        let refusal = self.refusal(rows, words, answer);
+        if refusal != 0 {
+            return refusal;
+        }
+        let (a, b, last) = (self.a as usize, self.b as usize, rows.len());
+        let mut new = Record { rows: Vec::new(), words: Vec::new() };
+        let (mut e, mut word) = (a, word_before(words, a));
+        while e < b || (e != last && word != word_before(words, e)) {
+            let frame = [0, 1, 2, 3].map(|i| self.trace[4 * e + i]);
+            let (row, next) = one_step(self.config, word, frame);
+            new.rows.push(row);
+            new.words.push(next);
+            word = next;
+            e += 1;
+        }
+        write_answer(e, &rows[a..e], &new.rows, answer);
+        rows[a..e].copy_from_slice(&new.rows);
+        words[a..e].copy_from_slice(&new.words);
+        0
+    }
+
+    /// "For true kept records, e ≤ b+n−1 for kinds 0 and 1, e ≤ b+n for kind 4, e ≤ b+1 for kind 6. Kinds 2, 3 and 5 have no
+    /// such limit."
+    pub fn latest_end(&self) -> Option<u64> {
+        let n = u64::from(self.config.n);
+        match self.config.kind {
+            0 | 1 => Some(self.b + n - 1),
+            4 => Some(self.b + n),
+            6 => Some(self.b + 1),
+            _ => None,
+        }
+    }
+}
+
+fn write_answer(e: usize, old: &[u32], new: &[u32], answer: &mut [i32]) {
+    answer[0] = e as i32;
+    for (i, mark) in MARKS.iter().enumerate() {
+        answer[i + 1] = count(new, *mark) as i32 - count(old, *mark) as i32;
+    }
+}
+
+/// "A mark's count is the number of the record's rows with its bit set."
+pub fn count(rows: &[u32], mark: u32) -> u32 {
+    rows.iter().filter(|row| *row & mark != 0).count() as u32
+}
+
+/// "Totals: for each of the five marks, the rows with that bit set, over up to 65,536 rows (more is refusal 5); other bits are
+/// ignored"
+pub fn totals(rows: &[u32], counts: &mut [u32]) -> u32 {
+    if counts.len() != MARKS.len() || rows.len() > MOST_CYCLES {
+        return 5;
+    }
+    counts.copy_from_slice(&MARKS.map(|mark| count(rows, mark)));
+    0
+}
+
+/// "three 32-bit words each (cycle, mark 1 or 2, start cycle), ordered by cycle, mark, start"; "A time check's start is where it
+/// was opened or last window reset, a transition's the cycle before."
+pub fn entries(config: Config, trace: &[u32]) -> Vec<[u32; 3]> {
+    let history = History::new(config, trace);
+    let mut entries = Vec::new();
+    for t in 0..trace.len() / 4 {
+        let verdict = history.verdict(t);
+        entries.extend(verdict.failed.iter().map(|&s| [t as u32, 1, s as u32]));
+        entries.extend(verdict.illegal.map(|s| [t as u32, 2, s as u32]));
+    }
+    entries.sort();
+    entries
+}
+
+/// "it answers how many. […] Later entries of the lent slice stay unaltered." Refusal 8: "three words for each entry (failure
+/// or illegal start) exceed the list's slice".
+pub fn failures(config: Config, trace: &[u32], list: &mut [u32]) -> u64 {
+    let refusal = trace_refusal(config, trace);
+    if refusal != 0 {
+        return u64::from(refusal) << 32;
+    }
+    let entries = entries(config, trace);
+    if 3 * entries.len() > list.len() {
+        return 8 << 32;
+    }
+    for (place, word) in list.iter_mut().zip(entries.concat()) {
+        *place = word;
+    }
+    entries.len() as u64
+}
+
+/// "Open count of a possible word: the number of its ones for kinds 0 to 2, otherwise 1 when a check is unfinished, else 0."
+pub fn open_count(config: Config, word: u64) -> u32 {
+    let refusal = step_refusal(config, word);
+    if refusal != 0 {
+        256 * refusal
+    } else if config.is_sequence() {
+        (0..64).filter(|j| word >> j & 1 == 1).count() as u32
+    } else {
+        u32::from(word != 0)
+    }
+}
+
+/// "K and N as numbers, and K lots of N rows, checker by checker. The smallest cycle with mark 1 or 2, then the smallest
+/// checker; "none" exactly if no row has either mark." The header gives the number that says so.
+pub fn first_failure(checkers: u64, cycles: u64, rows: &[u32]) -> u64 {
+    if checkers > MOST_CHECKERS as u64 {
+        return 9 << 32;
+    }
+    if cycles > MOST_CYCLES as u64 {
+        return 4 << 32;
+    }
+    if rows.len() as u64 != checkers * cycles {
+        return 5 << 32;
+    }
+    let first_of = |(checker, lot): (usize, &[u32])| Some((lot.iter().position(|row| row & 3 != 0)?, checker));
+    let first = rows.chunks(cycles.max(1) as usize).enumerate().filter_map(first_of).min();
+    first.map_or(0, |(cycle, checker)| (1 << 31) + ((checker as u64) << 16) + cycle as u64)
+}
+
+/// "Every word and row becomes what that checker's one step gives." "A bench tests 9 and 5, then checkers in order, and names
+/// the first bad one (0 for 9 and 5)."
+pub fn bench(table: &[Config], frames: &[u32], words: &mut [u64], rows: &mut [u32]) -> u32 {
+    if table.len() > MOST_CHECKERS {
+        return 256 * 9;
+    }
+    if frames.len() != 4 * table.len() || words.len() != table.len() || rows.len() != table.len() {
+        return 256 * 5;
+    }
+    for (k, config) in table.iter().enumerate() {
+        let refusal = step_refusal(*config, words[k]);
+        if refusal != 0 {
+            return 256 * refusal + k as u32;
+        }
+    }
+    for (k, config) in table.iter().enumerate() {
+        let frame = [0, 1, 2, 3].map(|i| frames[4 * k + i]);
+        (rows[k], words[k]) = one_step(*config, words[k], frame);
+    }
+    0
+}

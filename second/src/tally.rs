@@ -1,0 +1,199 @@
+//! What the run has covered: how many cases each call, kind, mark, refusal and situation had. A run that missed one fails.
+
+use std::collections::BTreeMap;
+
+#[derive(Clone, Copy, PartialEq, Eq, PartialOrd, Ord, Debug)]
+pub enum Call {
+    Step,
+    Check,
+    Recheck,
+    Totals,
+    Failures,
+    OpenCount,
+    FirstFailure,
+    Bench,
+}
+
+use Call::*;
+
+pub const CALLS: [Call; 8] = [Step, Check, Recheck, Totals, Failures, OpenCount, FirstFailure, Bench];
+
+impl Call {
+    /// The answers 0 to 9 that the header allows a call.
+    fn refusals(self) -> &'static [u32] {
+        match self {
+            Step => &[0, 1, 2, 3, 5, 7],
+            Check => &[0, 1, 2, 3, 4, 5],
+            Recheck => &[0, 1, 2, 3, 4, 5, 6, 7],
+            Totals => &[0, 5],
+            Failures => &[0, 1, 2, 3, 4, 8],
+            OpenCount => &[0, 1, 2, 3, 7],
+            FirstFailure => &[0, 4, 5, 9],
+            Bench => &[0, 1, 2, 3, 5, 7, 9],
+        }
+    }
+
+    fn has_kind(self) -> bool {
+        !matches!(self, Totals | FirstFailure)
+    }
+
+    /// The marks that the rows (or entries) of a call can have for a kind.
+    fn marks(self, kind: u8) -> Vec<u32> {
+        let of_kind: &[u32] = match kind {
+            3 => &[1, 4, 8],
+            4 => &[1, 4, 8, 16],
+            5 => &[1, 2, 4, 8],
+            NO_KIND => &[1, 2, 4, 8, 16],
+            _ => &[1, 4],
+        };
+        match self {
+            OpenCount => Vec::new(),
+            Failures | FirstFailure => of_kind.iter().copied().filter(|mark| *mark <= 2).collect(),
+            _ => of_kind.to_vec(),
+        }
+    }
+}
+
+/// Stands for the kind in a call that has no configuration.
+pub const NO_KIND: u8 = 7;
+
+/// The situations that every run has to meet, besides calls, kinds, marks and refusals.
+const SITUATIONS: [&str; 34] = [
+    "check of 0 cycles",
+    "check of 1 cycle",
+    "check of 65,536 cycles",
+    "check refused 65,537 cycles",
+    "trace of 65,536 cycles and one word more",
+    "trace of no multiple of 4 words",
+    "window of 1,024 cycles closed",
+    "attempt failed in its 32nd cycle",
+    "recheck of 65,536 cycles",
+    "recheck, a = b = N = 0",
+    "recheck, a = b",
+    "recheck of the whole trace",
+    "recheck, a above b",
+    "recheck, b above N",
+    "recheck, true record, e = b",
+    "recheck, true record, e between b and N",
+    "recheck, true record, e = N above b",
+    "recheck, true record, e above b + n, kinds 2, 3, 5",
+    "recheck, false record, e = b",
+    "recheck, false record, e between b and N",
+    "recheck, false record, e = N above b",
+    "recheck, impossible kept word after a",
+    "failures, list exactly long enough",
+    "failures, list one word short",
+    "failures, list longer",
+    "failures of 65,536 cycles",
+    "totals of 65,536 rows",
+    "totals refused 65,537 rows",
+    "first failure, none",
+    "first failure, in the last row only",
+    "first failure, 64 checkers of 65,536 cycles",
+    "first failure refused 65,537 cycles",
+    "bench, several bad checkers",
+    "bench, bad checker last of 64",
+];
+
+#[derive(Default)]
+pub struct Tally {
+    refusals: BTreeMap<(Call, u32), u64>,
+    kinds: BTreeMap<(Call, u8), u64>,
+    marks: BTreeMap<(Call, u8, u32), u64>,
+    situations: BTreeMap<&'static str, u64>,
+    checkers: BTreeMap<(Call, usize), u64>,
+}
+
+impl Tally {
+    /// One case of a call. Kinds are counted where the call was not refused.
+    pub fn case(&mut self, call: Call, kind: Option<u8>, refusal: u32) {
+        *self.refusals.entry((call, refusal)).or_default() += 1;
+        if let (0, Some(kind)) = (refusal, kind) {
+            self.kind(call, kind);
+        }
+    }
+
+    pub fn kind(&mut self, call: Call, kind: u8) {
+        *self.kinds.entry((call, kind)).or_default() += 1;
+    }
+
+    pub fn rows(&mut self, call: Call, kind: u8, rows: &[u32]) {
+        for mark in crate::rules::MARKS {
+            *self.marks.entry((call, kind, mark)).or_default() += u64::from(crate::rules::count(rows, mark));
+        }
+    }
+
+    pub fn checkers(&mut self, call: Call, checkers: usize) {
+        *self.checkers.entry((call, checkers)).or_default() += 1;
+    }
+
+    pub fn situation(&mut self, name: &'static str, met: bool) {
+        assert!(SITUATIONS.contains(&name), "{name} is not in the list");
+        *self.situations.entry(name).or_default() += u64::from(met);
+    }
+
+    fn cases(&self, call: Call) -> u64 {
+        self.refusals.iter().filter(|((c, _), _)| *c == call).map(|(_, count)| count).sum()
+    }
+
+    fn mark(&self, call: Call, kind: u8, mark: u32) -> u64 {
+        self.marks.get(&(call, kind, mark)).copied().unwrap_or(0)
+    }
+
+    pub fn print(&self) {
+        println!("cases by answer:");
+        print_line("call", (0..=9).map(|no| if no == 0 { "done".into() } else { format!("refused {no}") }), "all");
+        for call in CALLS {
+            let count = |no: u32| match self.refusals.get(&(call, no)) {
+                Some(count) => count.to_string(),
+                None => (if call.refusals().contains(&no) { "MISSED" } else { "-" }).into(),
+            };
+            print_line(&format!("{call:?}"), (0..=9).map(count), &self.cases(call).to_string());
+        }
+        println!("\nchecks done by kind:");
+        print_line("call", (0..=6).map(|kind| format!("kind {kind}")), "");
+        for call in CALLS.into_iter().filter(|call| call.has_kind()) {
+            let count = |kind: u8| self.kinds.get(&(call, kind)).copied().unwrap_or(0).to_string();
+            print_line(&format!("{call:?}"), (0..=6).map(count), "");
+        }
+        println!("\nrows with each mark (failures: entries; first failure: answers), kinds together:");
+        print_line("call", crate::rules::MARKS.iter().map(|mark| format!("mark {mark}")), "");
+        for call in CALLS.into_iter().filter(|call| *call != OpenCount) {
+            let count = |mark: &u32| (0..=NO_KIND).map(|kind| self.mark(call, kind, *mark)).sum::<u64>().to_string();
+            print_line(&format!("{call:?}"), crate::rules::MARKS.iter().map(count), "");
+        }
+        println!("\nsituations:");
+        for (name, count) in &self.situations {
+            println!("{count:>9}  {name}");
+        }
+    }
+
+    /// The names of all that had no case.
+    pub fn missed(&self) -> Vec<String> {
+        let mut missed = Vec::new();
+        for call in CALLS {
+            let not_given = call.refusals().iter().filter(|no| !self.refusals.contains_key(&(call, **no)));
+            missed.extend(not_given.map(|no| format!("{call:?}: answer {no}")));
+            let kinds = if call.has_kind() { 0..=6 } else { NO_KIND..=NO_KIND };
+            for kind in kinds {
+                if call.has_kind() && !self.kinds.contains_key(&(call, kind)) {
+                    missed.push(format!("{call:?}: kind {kind}"));
+                }
+                let not_seen = call.marks(kind).into_iter().filter(|mark| self.mark(call, kind, *mark) == 0);
+                missed.extend(not_seen.map(|mark| format!("{call:?}: kind {kind}, mark {mark}")));
+            }
+        }
+        let not_met = SITUATIONS.iter().filter(|name| self.situations.get(*name).copied().unwrap_or(0) == 0);
+        missed.extend(not_met.map(|name| name.to_string()));
+        for call in [FirstFailure, Bench] {
+            let not_tried = [0, 1, 2, 63, 64, 65].into_iter().filter(|k| !self.checkers.contains_key(&(call, *k)));
+            missed.extend(not_tried.map(|k| format!("{call:?}: {k} checkers")));
+        }
+        missed
+    }
+}
+
+fn print_line(name: &str, columns: impl Iterator<Item = String>, last: &str) {
+    let columns: String = columns.map(|column| format!("{column:>11}")).collect();
+    println!("{name:<13}{columns}{last:>9}");
+}

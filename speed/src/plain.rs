@@ -1,0 +1,319 @@
+//! The full check and the bench step in ordinary Rust, to hold the proved library's times against.
+//!
+//! The same on both sides: what a call is handed and what it answers; the refusals, tested before anything is written; the
+//! stepping, where an open word carries all that is unfinished from one cycle to the next, and every cycle is one step from
+//! that word and the cycle's frame alone; the instruction set that both are compiled for (see `speed/run`).
+//!
+//! On both sides a full check looks at the kind once and then runs a loop of its own, and a time step leaves early where
+//! nothing is pending. What differs, as it would in ordinary Rust: `Checker` and `fill` are generic, so there is a loop for
+//! each kind and not for each family; shifts and masks of the ports are worked out before the loop; a bus that is read
+//! against the order of its wires is turned round by `u32::reverse_bits`; the slices are walked by iterators. There is no
+//! proof, and no `unsafe`: the compiler's tests of indices stay where it cannot see that they are not needed.
+#![forbid(unsafe_code)]
+
+use std::hint::select_unpredictable;
+
+const MOST_PIPE: u8 = 0;
+const FIRST_PIPE: u8 = 1;
+const FIRST_NO_PIPE: u8 = 2;
+const IGNORE_NEW_START: u8 = 3;
+const RESET_ON_NEW_START: u8 = 4;
+const ERROR_ON_NEW_START: u8 = 5;
+const TRANSITION: u8 = 6;
+
+const FAILURE: u32 = 1;
+const ILLEGAL: u32 = 2;
+const OPENED: u32 = 4;
+const CLOSED: u32 = 8;
+const RESTARTED: u32 = 16;
+
+const MOST_CYCLES: usize = 65_536;
+const MOST_CHECKERS: usize = 64;
+
+/// A transition's open word is 0, or this plus the stored next state.
+const STORED: u64 = 1 << 32;
+
+/// Four words of 32 wires: reset, P, Q, R.
+type Frame = [u32; 4];
+
+/// A port's declaration [left:right]. The C host's layout, as `Config` has: one table serves both sides.
+#[repr(C)]
+#[derive(Clone, Copy, Debug)]
+pub struct Range {
+    pub left: u8,
+    pub right: u8,
+}
+
+#[repr(C)]
+#[derive(Clone, Copy, Debug)]
+pub struct Config {
+    pub kind: u8,
+    pub n: u32,
+    pub p: Range,
+    pub q: Range,
+    pub r: Range,
+}
+
+/// Fills the row and the open word of every cycle. An error is the refusal number, 1 to 5.
+// The library cannot be inlined into the benchmark, nor made for the one configuration that is timed: so this is not either.
+#[inline(never)]
+pub fn full_check(config: &Config, trace: &[u32], rows: &mut [u32], words: &mut [u64]) -> Result<(), u32> {
+    test_config(config)?;
+    let (frames, rest) = trace.as_chunks::<4>();
+    if !rest.is_empty() || frames.len() > MOST_CYCLES {
+        return Err(4);
+    }
+    if rows.len() != frames.len() || words.len() != frames.len() {
+        return Err(5);
+    }
+    match config.kind {
+        MOST_PIPE => fill(&Sequence::<MOST_PIPE>::new(config), frames, rows, words),
+        FIRST_PIPE => fill(&Sequence::<FIRST_PIPE>::new(config), frames, rows, words),
+        FIRST_NO_PIPE => fill(&Sequence::<FIRST_NO_PIPE>::new(config), frames, rows, words),
+        IGNORE_NEW_START => fill(&Time::<IGNORE_NEW_START>::new(config), frames, rows, words),
+        RESET_ON_NEW_START => fill(&Time::<RESET_ON_NEW_START>::new(config), frames, rows, words),
+        ERROR_ON_NEW_START => fill(&Time::<ERROR_ON_NEW_START>::new(config), frames, rows, words),
+        _ if config.all_descend() => fill(&Transition::<false>::new(config), frames, rows, words),
+        _ => fill(&Transition::<true>::new(config), frames, rows, words),
+    }
+    Ok(())
+}
+
+fn fill(checker: &impl Checker, frames: &[Frame], rows: &mut [u32], words: &mut [u64]) {
+    let mut word = 0;
+    for ((frame, row), kept) in frames.iter().zip(rows).zip(words) {
+        (*row, word) = step(checker, word, frame);
+        *kept = word;
+    }
+}
+
+/// Steps every checker of the table on its own frame, word and row. An error is 256 times the refusal plus the bad checker.
+#[inline(never)]
+pub fn bench_step(table: &[Config], frames: &[u32], words: &mut [u64], rows: &mut [u32]) -> Result<(), u32> {
+    let checkers = table.len();
+    if checkers > MOST_CHECKERS {
+        return Err(256 * 9);
+    }
+    if frames.len() != 4 * checkers || words.len() != checkers || rows.len() != checkers {
+        return Err(256 * 5);
+    }
+    // All are tested before the first is stepped: a refusal writes nothing.
+    for (k, (config, word)) in table.iter().zip(words.iter()).enumerate() {
+        test_step(config, *word).map_err(|refusal| 256 * refusal + k as u32)?;
+    }
+    let (frames, _) = frames.as_chunks::<4>();
+    for (((config, frame), word), row) in table.iter().zip(frames).zip(words).zip(rows) {
+        (*row, *word) = step_of_kind(config, *word, frame);
+    }
+    Ok(())
+}
+
+/// One step of a checker that was tested. A table's kinds are mixed, so here the kind is looked at in each step.
+fn step_of_kind(config: &Config, word: u64, frame: &Frame) -> (u32, u64) {
+    match config.kind {
+        MOST_PIPE => step(&Sequence::<MOST_PIPE>::new(config), word, frame),
+        FIRST_PIPE => step(&Sequence::<FIRST_PIPE>::new(config), word, frame),
+        FIRST_NO_PIPE => step(&Sequence::<FIRST_NO_PIPE>::new(config), word, frame),
+        IGNORE_NEW_START => step(&Time::<IGNORE_NEW_START>::new(config), word, frame),
+        RESET_ON_NEW_START => step(&Time::<RESET_ON_NEW_START>::new(config), word, frame),
+        ERROR_ON_NEW_START => step(&Time::<ERROR_ON_NEW_START>::new(config), word, frame),
+        _ => step(&Transition::<true>::new(config), word, frame),
+    }
+}
+
+/// One step: the cycle's row and the next open word. Reset ends every check.
+fn step(checker: &impl Checker, word: u64, frame: &Frame) -> (u32, u64) {
+    if frame[0] & 1 == 0 {
+        return (0, 0);
+    }
+    checker.step(word, frame)
+}
+
+/// A configured checker, and its step for a cycle out of reset.
+trait Checker {
+    fn step(&self, word: u64, frame: &Frame) -> (u32, u64);
+}
+
+/// Kinds 0 to 2. Bit j of the open word is the attempt that started j cycles ago.
+struct Sequence<const KIND: u8> {
+    /// The events in the order in which an attempt meets them: bit i is the event needed i cycles after the start.
+    events: Port,
+    last: u32,
+}
+
+impl<const KIND: u8> Sequence<KIND> {
+    fn new(config: &Config) -> Self {
+        let turned = Range { left: config.p.right, right: config.p.left };
+        Self { events: Port::new(turned), last: config.n - 1 }
+    }
+}
+
+impl<const KIND: u8> Checker for Sequence<KIND> {
+    fn step(&self, word: u64, frame: &Frame) -> (u32, u64) {
+        let events = u64::from(self.events.value(frame[1]));
+        let accepts = KIND != FIRST_NO_PIPE || word == 0;
+        let start = events & u64::from(accepts);
+        let older = word << 1;
+        let next = (older | start) & events & ((1 << self.last) - 1);
+        let missed = older & !events;
+        let (failure, opened) = match KIND {
+            MOST_PIPE => (missed >> self.last & 1 != 0, next >> (self.last - 1) & 1 != 0),
+            _ => (missed != 0, start != 0),
+        };
+        (mark(failure, FAILURE) | mark(opened, OPENED), next)
+    }
+}
+
+/// Kinds 3 to 5. The open word is the number of pending cycles left.
+struct Time<const KIND: u8> {
+    start: u32,
+    test: u32,
+    n: u64,
+}
+
+impl<const KIND: u8> Time<KIND> {
+    fn new(config: &Config) -> Self {
+        // Ports of one wire: either end is that wire.
+        Self { start: config.p.left.into(), test: config.q.left.into(), n: config.n.into() }
+    }
+}
+
+impl<const KIND: u8> Checker for Time<KIND> {
+    fn step(&self, word: u64, frame: &Frame) -> (u32, u64) {
+        let start = frame[1] >> self.start & 1 != 0;
+        let test = frame[2] >> self.test & 1 != 0;
+        if word == 0 {
+            return if start { (OPENED, self.n) } else { (0, 0) };
+        }
+        if KIND == RESET_ON_NEW_START && start {
+            return (RESTARTED, self.n);
+        }
+        let illegal = KIND == ERROR_ON_NEW_START && start;
+        (mark(!test, FAILURE) | mark(illegal, ILLEGAL) | mark(word == 1, CLOSED), word - 1)
+    }
+}
+
+/// Kind 6. The open word is 0, or `STORED` plus the next state that was stored.
+/// Most buses are declared descending: where all three are, the loop `Transition<false>` looks at no direction.
+struct Transition<const TURNS: bool> {
+    test: Port,
+    start_state: Port,
+    next_state: Port,
+}
+
+impl<const TURNS: bool> Transition<TURNS> {
+    fn new(config: &Config) -> Self {
+        Self { test: Port::new(config.p), start_state: Port::new(config.q), next_state: Port::new(config.r) }
+    }
+
+    fn read(port: &Port, wires: u32) -> u32 {
+        if TURNS {
+            port.value(wires)
+        } else {
+            port.descending(wires)
+        }
+    }
+}
+
+impl<const TURNS: bool> Checker for Transition<TURNS> {
+    fn step(&self, word: u64, frame: &Frame) -> (u32, u64) {
+        let test = Self::read(&self.test, frame[1]);
+        let failure = (word != 0) & (test != word as u32);
+        let starts = test == Self::read(&self.start_state, frame[2]);
+        let stored = STORED | u64::from(Self::read(&self.next_state, frame[3]));
+        // The states of a trace follow no pattern that the processor could guess.
+        let next = select_unpredictable(starts, stored, 0);
+        (mark(failure, FAILURE) | mark(starts, OPENED), next)
+    }
+}
+
+fn mark(set: bool, mark: u32) -> u32 {
+    u32::from(set) * mark
+}
+
+/// How a port is read from its word of wires.
+struct Port {
+    ascending: bool,
+    shift: u32,
+    mask: u32,
+}
+
+impl Port {
+    fn new(range: Range) -> Self {
+        let mask = u32::MAX >> (32 - range.width());
+        let right = u32::from(range.right);
+        if range.left >= range.right {
+            Port { ascending: false, shift: right, mask }
+        } else {
+            // Turned round, wire w is bit 31 - w, so that the wires go up from the right end as the value's bits do.
+            Port { ascending: true, shift: 31 - right, mask }
+        }
+    }
+
+    fn value(&self, wires: u32) -> u32 {
+        self.descending(if self.ascending { wires.reverse_bits() } else { wires })
+    }
+
+    fn descending(&self, wires: u32) -> u32 {
+        wires >> self.shift & self.mask
+    }
+}
+
+impl Config {
+    fn all_descend(&self) -> bool {
+        [self.p, self.q, self.r].iter().all(|range| range.left >= range.right)
+    }
+}
+
+impl Range {
+    fn width(self) -> u32 {
+        u32::from(self.left.abs_diff(self.right)) + 1
+    }
+
+    fn is_unused(self) -> bool {
+        self.left == 0 && self.right == 0
+    }
+
+    fn is_within(self) -> bool {
+        self.left <= 31 && self.right <= 31
+    }
+}
+
+/// Refusals 1 to 3.
+fn test_config(config: &Config) -> Result<(), u32> {
+    let &Config { kind, n, p, q, r } = config;
+    let n_fits = match kind {
+        MOST_PIPE..=FIRST_NO_PIPE => (2..=32).contains(&n),
+        IGNORE_NEW_START..=ERROR_ON_NEW_START => (1..=1024).contains(&n),
+        TRANSITION => n == 0,
+        _ => return Err(1),
+    };
+    if !n_fits {
+        return Err(2);
+    }
+    let widths_fit = match kind {
+        MOST_PIPE..=FIRST_NO_PIPE => p.width() == n && q.is_unused() && r.is_unused(),
+        IGNORE_NEW_START..=ERROR_ON_NEW_START => p.width() == 1 && q.width() == 1 && r.is_unused(),
+        _ => q.width() == p.width() && r.width() == p.width(),
+    };
+    if !(p.is_within() && q.is_within() && r.is_within() && widths_fit) {
+        return Err(3);
+    }
+    Ok(())
+}
+
+/// Refusals 1 to 3 of a configuration, then 7 of a word to go on from.
+fn test_step(config: &Config, word: u64) -> Result<(), u32> {
+    test_config(config)?;
+    let possible = match config.kind {
+        MOST_PIPE | FIRST_PIPE => word >> (config.n - 1) == 0,
+        FIRST_NO_PIPE => word >> (config.n - 1) == 0 && word & word.wrapping_sub(1) == 0,
+        IGNORE_NEW_START..=ERROR_ON_NEW_START => word <= u64::from(config.n),
+        _ => word == 0 || word.checked_sub(STORED).is_some_and(|value| value >> config.p.width() == 0),
+    };
+    if possible {
+        Ok(())
+    } else {
+        Err(7)
+    }
+}
