@@ -1,7 +1,7 @@
 -- The loop over the checkers that tests them: its answer after k of them, and that after all of them it names the first bad one. Assumes nothing.
 use Prim.Native.Nat.{ℕ, zero, suc, _+_, _*_, _/_, _%_, _≤_, _<_}
 use mathlib.Core.Path.{_≡_, refl, sym, ap, subst, _∙_}
-use mathlib.Core.Bool.{Bool, true, false, cond}
+use mathlib.Core.Bool.{true, false}
 use mathlib.Core.List.{List}
 use mathlib.Core.Logic.{_⊎_, inl, inr, ⊎-elim}
 use native.Mathlib.Nat.{le-refl, eq-or-lt-of-le, le-of-suc-le-suc}
@@ -13,7 +13,6 @@ use Rattle.bus.proofs.Tests.{either}
 use Rattle.bus.proofs.Packed.{high-of, low-of}
 use Rattle.rules.specs.declared.config.Config.{Config}
 use Rattle.rules.specs.Possible.{wordRefusal}
-use Rattle.config.proofs.Refusals.{word-refusal-low}
 use Rattle.bench.specs.Bench.{checkerAt, refusalAt, tested, FirstBad, Tested}
 
 -- ---- one checker more

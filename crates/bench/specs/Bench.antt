@@ -5,7 +5,6 @@ use mathlib.Core.Bool.{Bool, _&&_, cond}
 use mathlib.Core.List.{List}
 use lib.Dec.{leb, eqb}
 use lib.ListN.{length, getD, set}
-use Rattle.bus.specs.declared.range.Range.{Range}
 use Rattle.rules.specs.declared.config.Config.{Config}
 use Rattle.rules.specs.Possible.{wordRefusal}
 use Rattle.rules.specs.Step.{stepRow, stepWord}

@@ -1,6 +1,6 @@
 -- The search for the first failing row: where a row lies, which rows were looked at without finding one, and how the answer follows. Assumes nothing.
-use Prim.Native.Nat.{ℕ, zero, suc, _+_, _*_, _/_, _%_, _≤_, _<_}
-use mathlib.Core.Path.{_≡_, refl, sym, subst}
+use Prim.Native.Nat.{ℕ, suc, _+_, _*_, _≤_, _<_}
+use mathlib.Core.Path.{_≡_, refl, subst}
 use mathlib.Core.Bool.{true, false}
 use mathlib.Core.List.{List}
 use mathlib.Core.Logic.{⊎-elim}
@@ -8,7 +8,7 @@ use native.Mathlib.Nat.{eq-or-lt-of-le, le-of-suc-le-suc, mul-le-mul, mul-le-mul
 use native.Mathlib.Omega.{arith}
 use lib.Dec.{T}
 use Rattle.bus.proofs.Tests.{of-true, of-false}
-use Rattle.first_failure.specs.Search.{failing, rowAt, First, Searched}
+use Rattle.first_failure.specs.Search.{failing, rowAt, Searched}
 
 -- the row of checker k in cycle t lies among the rows, and its place is small
 pub row-in : (checkers cycles k t : ℕ) → k < checkers → t < cycles → k * cycles + t < checkers * cycles

@@ -1,8 +1,8 @@
 -- What the C host's calls answer, besides one step: the calls' own definitions, with the numbers packed into one. From document 01, "Refusal numbers"; how
 -- the numbers are packed is for this boundary to say, and the header says it too. Assumes nothing.
-use Prim.Native.Nat.{ℕ, _+_, _*_, _/_, _%_, _^_}
+use Prim.Native.Nat.{ℕ}
 use mathlib.Core.Path.{_≡_}
-use mathlib.Core.Bool.{Bool, cond}
+use mathlib.Core.Bool.{cond}
 use mathlib.Core.List.{List, _∷_}
 use lib.Dec.{eqb, leb}
 use lib.IntN.{ℤ, pos}

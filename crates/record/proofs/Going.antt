@@ -2,14 +2,11 @@
 -- and has counted the marks of the rows that it replaced and stored. Assumes nothing.
 use Prim.Native.Nat.{ℕ, suc, _+_, _≤_, _<_}
 use mathlib.Core.Path.{_≡_, sym, ap, subst, subst⁻¹, _∙_}
-use mathlib.Core.Bool.{Bool, true, false, not, _&&_, _||_}
 use mathlib.Core.List.{List}
-use mathlib.Core.Logic.{_⊎_, inl, inr, ⊎-elim}
+use mathlib.Core.Logic.{_⊎_, ⊎-elim}
 use native.Mathlib.Nat.{le-refl, eq-or-lt-of-le, le-of-suc-le-suc}
 use native.Mathlib.Omega.{arith}
-use borrow.Author.Tests.{ltb-true, ltb-false, eqb-true}
-use lib.Dec.{T, T-not, not-T, ltb, ltb→lt, lt→ltb, eqb, eqb-refl}
-use Rattle.bus.proofs.Tests.{of-true, of-false, and-intro, and-left, and-right, or-left, or-right, or-cases, either}
+use lib.Dec.{T}
 use lib.ListN.{length, getD, set}
 use Rattle.bus.specs.Bits.{toBit, bit}
 use Rattle.rules.specs.declared.config.Config.{Config}

@@ -31,7 +31,6 @@ use types.Part.{agg, whole, sub, look-in}
 use types.Tokens.{lft-new, lft-end}
 use sound.WpLaws.{fmOf, WpFn-mono}
 use denote.RattleType.{owns}
-use denote.Memory.{pointee}
 use denote.Laws.{Is}
 use denote.Plain.{uint-makes}
 use denote.Builtin.{u32, u64, usize, unit}

@@ -5,8 +5,6 @@ use lib.ListN.{length}
 use borrow.Author.Needs.{needs}
 use Rattle.examples.proofs.lists.without_events.Statement.{statement}
 use Rattle.examples.proofs.lists.without_events.Tie as tie
-use Rattle.examples.proofs.lists.without_events.Reads as reads
-use Rattle.examples.proofs.lists.without_events.Lts as lts
 
 abbrev Inv-loop : tie.InvT-loop
 Inv-loop trace₀ k₀ k-end trace k = (length trace ≡ length trace₀) × (k ≤ k-end) × (k-end ≡ length trace₀ / 128)

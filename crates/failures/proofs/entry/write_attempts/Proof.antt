@@ -7,9 +7,6 @@ use Rattle.failures.proofs.Writing.{Writing, highest, writing-none, wri
 use borrow.Author.Needs.{needs}
 use Rattle.failures.proofs.entry.write_attempts.Statement.{statement}
 use Rattle.failures.proofs.entry.write_attempts.Tie as tie
-use Rattle.failures.proofs.entry.write_attempts.Reads as reads
-use Rattle.failures.proofs.entry.write_attempts.Lts as lts
-use Rattle.failures.proofs.entry.write_entry.Reads as write-entry-reads
 
 abbrev Inv-loop : tie.InvT-loop
 Inv-loop lost t list₀ at rest₀ next₀ list rest next = Writing lost t list₀ at list rest next

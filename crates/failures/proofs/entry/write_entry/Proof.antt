@@ -7,8 +7,6 @@ use lib.ListN.{set, length-set}
 use borrow.Author.Needs.{needs}
 use Rattle.failures.proofs.entry.write_entry.Statement.{statement}
 use Rattle.failures.proofs.entry.write_entry.Tie as tie
-use Rattle.failures.proofs.entry.write_entry.Reads as reads
-use Rattle.failures.proofs.entry.write_entry.Lts as lts
 
 cast-list : tie.Need-cast-list
 cast-list c = search needs

@@ -9,9 +9,6 @@ use Rattle.engine.proofs.SequenceCode.{fits}
 use Rattle.failures.proofs.Attempts.{lost-all, lost-oldest}
 use Rattle.failures.proofs.lost.lost_attempts.Statement.{statement}
 use Rattle.failures.proofs.lost.lost_attempts.Tie as tie
-use Rattle.failures.proofs.lost.lost_attempts.Reads as reads
-use Rattle.failures.proofs.lost.lost_attempts.Lts as lts
-use Rattle.engine.proofs.events_in_order.Reads as events-in-order-reads
 
 events-in-order-requires : tie.Need-events-in-order-requires
 events-in-order-requires c κs = search needs

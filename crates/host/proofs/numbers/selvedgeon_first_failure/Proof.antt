@@ -1,5 +1,5 @@
 -- `host::numbers::selvedgeon_first_failure` meets its contract: the search's, with its numbers packed. Assumes nothing.
-use mathlib.Core.Path.{_≡_, sym}
+use mathlib.Core.Path.{_≡_}
 use native.Mathlib.Omega.{arith}
 use denote.Ref.{now}
 use Rattle.first_failure.specs.declared.search.FirstFailure.{FirstFailure}

@@ -4,35 +4,26 @@ use native.Mathlib.Numerals.{add-one}
 use Rattle.bus.specs.Range.{width}
 use Rattle.bus.proofs.range.Range.width.Statement.{statement}
 use Rattle.bus.proofs.range.Range.width.Tie as tie
-use Rattle.bus.proofs.range.Range.width.Reads as reads
-use Rattle.bus.proofs.range.Range.width.Lts as lts
 
--- src/range.rt:27:20
 cast-left : tie.Need-cast-left
 cast-left c = search needs
 
--- src/range.rt:28:21
 cast-right : tie.Need-cast-right
 cast-right c = search needs
 
--- src/range.rt:30:13
 add-result : tie.Need-add-result
 add-result c = search needs
 
--- src/range.rt:32:13
 sub-result : tie.Need-sub-result
 sub-result c = search needs
 
--- src/range.rt:32:13
 add-result-2 : tie.Need-add-result-2
 add-result-2 c = search needs
 
--- src/range.rt:24:5
 returns : tie.Need-returns
 unfolding width
 returns c = simp (le-leb _ _ (c .if1 .taken)) (add-one _)
 
--- src/range.rt:24:5
 returns-2 : tie.Need-returns-2
 unfolding width
 returns-2 c = simp (lt-leb _ _ (c .if1 .left)) (add-one _)
