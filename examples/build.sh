@@ -4,8 +4,8 @@ set -euo pipefail
 cd "$(dirname "$0")/.."
 library=${1:-}
 if [ -z "$library" ]; then
-    rt staticlib host
-    library=target/staticlib/libhost.a
+    rt staticlib selvedgeon
+    library=target/staticlib/libselvedgeon.a
 fi
 mkdir -p target/examples
 gcc -std=c11 -Wall -Wextra -Werror -O2 -Iinclude examples/recheck.c "$library" -o target/examples/recheck

@@ -1,17 +1,24 @@
-//! What is timed: one trace, made from a seed, and the checkers that run over it.
-use crate::plain::{Config, Range};
+//! What is timed: the traces, made from a seed, and the checkers that run over them.
+use crate::engine::{Engine, Plain, Record};
+use crate::plain::{self, Config, Range, FAILURE, ILLEGAL};
 
 pub const SEED: u64 = 0x5e17_ed6e_2026;
 pub const CYCLES: usize = 65_536;
 pub const BENCH: usize = 64;
+/// Words of the slice for a failure list: one entry a cycle, far more than the traces have.
+pub const LIST: usize = 3 * CYCLES;
 
 // Where the trace has its signals. A checker of fewer wires has noise beside it, which it must ignore.
 const EVENTS: u8 = 0; // P, 16 wires from here up
+const EVENT_WIRES: u32 = 0xffff;
 const START: u8 = 16; // P
 const TEST: u8 = 3; // Q
 const STATES: u8 = 24; // P, Q and R, 8 wires from here up
 
-/// One row of the table that is printed.
+/// So many frames are drawn for a failure that is due, before it waits for the next cycle.
+const MOST_DRAWS: u32 = 64;
+
+/// One row of the tables that are printed.
 pub struct Input {
     pub name: String,
     pub call: Call,
@@ -24,27 +31,47 @@ pub enum Call {
     FullCheck,
     /// A bench step for each of the 65,536 cycles: in step t, checker k is on cycle t + k, as in its full check.
     Bench,
+    /// A recheck for each checker, on the cycles of its full check. It starts from a false record and goes through them all.
+    Recheck,
+    /// The failure list for each checker, on a trace of its own where one of so many cycles fails, or none does.
+    List { one_in: Option<u32> },
 }
 
-/// Each kind alone, then 64 checkers of mixed kinds.
+/// For each call, each kind alone and then 64 checkers of mixed kinds; a bench step for these 64 only.
 pub fn inputs() -> Vec<Input> {
     let mut inputs = Vec::new();
-    for kind in 0..=2 {
-        inputs.push(alone(format!("kind {kind}, n 8, [7:0]"), sequence(kind, 8, false)));
-        inputs.push(alone(format!("kind {kind}, n 8, [0:7]"), sequence(kind, 8, true)));
+    let mut add = |name, call, checkers| inputs.push(Input { name, call, checkers });
+    for (name, checker) in alone() {
+        add(name, Call::FullCheck, vec![checker]);
     }
-    for kind in 3..=5 {
-        inputs.push(alone(format!("kind {kind}, n 16"), time(kind, 16)));
+    add("64 mixed, full check".into(), Call::FullCheck, mixed());
+    add("64 mixed, bench step".into(), Call::Bench, mixed());
+    for (title, call) in [
+        ("recheck", Call::Recheck),
+        ("list, none", Call::List { one_in: None }),
+        ("list, 1 in 16", Call::List { one_in: Some(16) }),
+    ] {
+        for (name, checker) in alone() {
+            add(format!("{title}, {name}"), call, vec![checker]);
+        }
+        add(format!("{title}, 64 mixed"), call, mixed());
     }
-    inputs.push(alone("kind 6, width 8, [31:24]".into(), transition(8, false)));
-    inputs.push(alone("kind 6, width 8, [24:31]".into(), transition(8, true)));
-    inputs.push(Input { name: "64 mixed, full check".into(), call: Call::FullCheck, checkers: mixed() });
-    inputs.push(Input { name: "64 mixed, bench step".into(), call: Call::Bench, checkers: mixed() });
     inputs
 }
 
-fn alone(name: String, checker: Config) -> Input {
-    Input { name, call: Call::FullCheck, checkers: vec![checker] }
+/// A checker of each kind, and where the direction of a bus counts, of each direction.
+fn alone() -> Vec<(String, Config)> {
+    let mut checkers = Vec::new();
+    for kind in 0..=2 {
+        checkers.push((format!("kind {kind}, n 8, [7:0]"), sequence(kind, 8, false)));
+        checkers.push((format!("kind {kind}, n 8, [0:7]"), sequence(kind, 8, true)));
+    }
+    for kind in 3..=5 {
+        checkers.push((format!("kind {kind}, n 16"), time(kind, 16)));
+    }
+    checkers.push(("kind 6, width 8, [31:24]".into(), transition(8, false)));
+    checkers.push(("kind 6, width 8, [24:31]".into(), transition(8, true)));
+    checkers
 }
 
 /// All kinds in turn; sizes and directions go round with other periods, so that they are mixed as well.
@@ -83,28 +110,58 @@ fn bus(lowest: u8, width: u8, ascending: bool) -> Range {
     }
 }
 
-/// The frames of 65,536 cycles and 63 more, so that each of the 64 checkers has its own 65,536 (see `Call`).
+/// The frames of 65,536 cycles and 64 more, so that each of the 64 checkers has its own 65,536 (see `Call`) and the 65,536
+/// from one cycle later (see `kept_rows`).
 ///
 /// An event is there in 3 cycles of 4, so that attempts live for some cycles and some end well; a start in 1 of 8, a test
 /// in 7 of 8; of 4 states one is the start state, and the next one comes in 7 cycles of 8; reset once in some 1,024.
 pub fn trace() -> Vec<u32> {
     let mut generator = Generator(SEED);
     let mut state = 0;
-    let mut frames = Vec::with_capacity(4 * (CYCLES + BENCH - 1));
-    for _ in 0..CYCLES + BENCH - 1 {
-        let next_state = generator.state();
-        let in_reset = generator.word().is_multiple_of(1024);
-        let reset = generator.word() & !1 | u32::from(!in_reset);
-        let events = (generator.word() | generator.word()) & 0xffff;
-        let start = (generator.word() & generator.word() & generator.word()) & 1 << START;
-        let test = generator.word() | generator.word() | generator.word();
-        let p = events | start | state << STATES;
-        let q = test & 0x00ff_ffff | generator.state() << STATES;
-        let r = generator.word() & 0x00ff_ffff | next_state << STATES;
-        frames.extend([reset, p, q, r]);
-        state = if generator.word().is_multiple_of(8) { generator.state() } else { next_state };
+    let mut frames = Vec::with_capacity(4 * (CYCLES + BENCH));
+    for _ in 0..CYCLES + BENCH {
+        let frame = generator.frame(state);
+        frames.extend(frame);
+        state = generator.state_after(&frame);
     }
     frames
+}
+
+/// The frames of `length` cycles from cycle `from` on.
+pub fn cut(trace: &[u32], from: usize, length: usize) -> &[u32] {
+    &trace[4 * from..4 * (from + length)]
+}
+
+/// The rows of the false record that checker k's recheck starts from: those of the trace one cycle later. They are like its
+/// own and differ in many cycles.
+pub fn kept_rows(config: &Config, trace: &[u32], k: usize) -> Vec<u32> {
+    let mut record = Record::new(CYCLES);
+    Plain.full_check(config, cut(trace, k + 1, CYCLES), &mut record).expect("every input's configuration is good");
+    record.rows
+}
+
+/// A trace of 65,536 cycles for the checker's failure list, of which about one in so many fails, or none.
+///
+/// A failure that has come due in a cycle where nothing can fail waits for the next one where something can.
+pub fn list_trace(config: &Config, one_in: Option<u32>) -> Vec<u32> {
+    let mut generator = Generator(SEED);
+    let mut cycle = Cycle { frame: [0; 4], word: 0, fails: false };
+    let mut due = 0;
+    let mut frames = Vec::with_capacity(4 * CYCLES);
+    for _ in 0..CYCLES {
+        due += u32::from(one_in.is_some_and(|cycles| generator.word().is_multiple_of(cycles)));
+        cycle = generator.cycle(config, &cycle, due > 0);
+        due -= u32::from(cycle.fails);
+        frames.extend(cycle.frame);
+    }
+    frames
+}
+
+/// A cycle of one checker: its frame, the open word after it, and whether its row has a failure or an illegal start.
+struct Cycle {
+    frame: [u32; 4],
+    word: u64,
+    fails: bool,
 }
 
 /// SplitMix64: the same words from the same seed on every machine.
@@ -122,4 +179,57 @@ impl Generator {
     fn state(&mut self) -> u32 {
         self.word() % 4 * 0x55
     }
+
+    /// A frame whose test state is the one given.
+    fn frame(&mut self, state: u32) -> [u32; 4] {
+        let next_state = self.state();
+        let in_reset = self.word().is_multiple_of(1024);
+        let reset = self.word() & !1 | u32::from(!in_reset);
+        let events = (self.word() | self.word()) & EVENT_WIRES;
+        let start = (self.word() & self.word() & self.word()) & 1 << START;
+        let test = self.word() | self.word() | self.word();
+        let p = events | start | state << STATES;
+        let q = test & 0x00ff_ffff | self.state() << STATES;
+        let r = self.word() & 0x00ff_ffff | next_state << STATES;
+        [reset, p, q, r]
+    }
+
+    /// A test state for the cycle after the frame.
+    fn state_after(&mut self, frame: &[u32; 4]) -> u32 {
+        if self.word().is_multiple_of(8) {
+            self.state()
+        } else {
+            frame[3] >> STATES
+        }
+    }
+
+    /// A cycle after `before` that fails or does not, as asked; where none of many draws fails, one that does not.
+    fn cycle(&mut self, config: &Config, before: &Cycle, fails: bool) -> Cycle {
+        // Out of the draws that are thrown away: a reset never fails, so it would come too often.
+        let reset = self.frame(0)[0];
+        let mut draws = 0;
+        loop {
+            let cycle = self.draw(config, before, reset);
+            if cycle.fails == (fails && draws < MOST_DRAWS) {
+                return cycle;
+            }
+            draws += 1;
+        }
+    }
+
+    fn draw(&mut self, config: &Config, before: &Cycle, reset: u32) -> Cycle {
+        let state = self.state_after(&before.frame);
+        let mut frame = self.frame(state);
+        frame[0] = reset;
+        // An event is there in 7 cycles of 8: else too few attempts at 16 events come to the last one, where kind 0 fails.
+        frame[1] |= self.word() & EVENT_WIRES;
+        let (mut word, mut row) = ([before.word], [0]);
+        plain::bench_step(&[*config], &frame, &mut word, &mut row).expect("every input's configuration is good");
+        Cycle { frame, word: word[0], fails: fails(row[0]) }
+    }
+}
+
+/// Whether a row has the mark of a failure or of an illegal start.
+pub fn fails(row: u32) -> bool {
+    row & (FAILURE | ILLEGAL) != 0
 }

@@ -13,7 +13,7 @@
 
 use std::hint::select_unpredictable;
 
-const MOST_PIPE: u8 = 0;
+pub const MOST_PIPE: u8 = 0;
 const FIRST_PIPE: u8 = 1;
 const FIRST_NO_PIPE: u8 = 2;
 const IGNORE_NEW_START: u8 = 3;
@@ -21,11 +21,11 @@ const RESET_ON_NEW_START: u8 = 4;
 const ERROR_ON_NEW_START: u8 = 5;
 const TRANSITION: u8 = 6;
 
-const FAILURE: u32 = 1;
-const ILLEGAL: u32 = 2;
-const OPENED: u32 = 4;
+pub const FAILURE: u32 = 1;
+pub const ILLEGAL: u32 = 2;
+pub const OPENED: u32 = 4;
 const CLOSED: u32 = 8;
-const RESTARTED: u32 = 16;
+pub const RESTARTED: u32 = 16;
 
 const MOST_CYCLES: usize = 65_536;
 const MOST_CHECKERS: usize = 64;

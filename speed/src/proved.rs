@@ -1,78 +1,127 @@
-//! The proved library's calls (`include/selvedgeon.h`), with the signatures of `plain`.
+//! The proved library's calls (`include/selvedgeon.h`), out of a shared object that `speed/run` makes of the static library.
+//!
+//! All `unsafe` is here. For each call of the library: every pointer is passed with the length of its own slice, and a slice
+//! that is written is borrowed alone.
+use crate::engine::{Answer, Engine, Record};
 use crate::plain::Config;
+use std::ffi::{c_char, c_int, c_void, CStr, CString};
+use std::mem::transmute_copy;
+use std::ops::Range;
 
+// Each pointer is followed by its length. The first eight numbers of three of the calls are the configuration.
+type Check =
+    unsafe extern "C" fn(u8, u32, u8, u8, u8, u8, u8, u8, *const u32, usize, *mut u32, usize, *mut u64, usize) -> u32;
+#[rustfmt::skip]
+type Recheck = unsafe extern "C" fn(
+    u8, u32, u8, u8, u8, u8, u8, u8, *const u32, usize, *mut u32, usize, *mut u64, usize, u64, u64, *mut i32, usize,
+) -> u32;
+type Failures = unsafe extern "C" fn(u8, u32, u8, u8, u8, u8, u8, u8, *const u32, usize, *mut u32, usize) -> u64;
+type Bench = unsafe extern "C" fn(*const Config, usize, *const u32, usize, *mut u64, usize, *mut u32, usize) -> u32;
+
+// The system's loader, in the C library that std links.
 extern "C" {
-    fn selvedgeon_check(
-        kind: u8,
-        n: u32,
-        p_left: u8,
-        p_right: u8,
-        q_left: u8,
-        q_right: u8,
-        r_left: u8,
-        r_right: u8,
-        trace: *const u32,
-        trace_len: usize,
-        rows: *mut u32,
-        rows_len: usize,
-        words: *mut u64,
-        words_len: usize,
-    ) -> u32;
-
-    fn selvedgeon_bench(
-        table: *const Config,
-        table_len: usize,
-        frames: *const u32,
-        frames_len: usize,
-        words: *mut u64,
-        words_len: usize,
-        rows: *mut u32,
-        rows_len: usize,
-    ) -> u32;
+    fn dlopen(path: *const c_char, flags: c_int) -> *mut c_void;
+    fn dlsym(handle: *mut c_void, name: *const c_char) -> *mut c_void;
 }
 
-pub fn full_check(config: &Config, trace: &[u32], rows: &mut [u32], words: &mut [u64]) -> Result<(), u32> {
-    let &Config { kind, n, p, q, r } = config;
-    // Each pointer is passed with the length of its own slice, and the two that are written are borrowed alone.
-    let answer = unsafe {
-        selvedgeon_check(
-            kind,
-            n,
-            p.left,
-            p.right,
-            q.left,
-            q.right,
-            r.left,
-            r.right,
-            trace.as_ptr(),
-            trace.len(),
-            rows.as_mut_ptr(),
-            rows.len(),
-            words.as_mut_ptr(),
-            words.len(),
-        )
-    };
-    done(answer)
+/// All is resolved when it is loaded, so that nothing is while it is timed; the names stay out of other libraries' way.
+const RTLD_NOW: c_int = 2;
+const RTLD_LOCAL: c_int = 0;
+
+/// A library that was loaded. It stays loaded as long as the program runs.
+pub struct Library {
+    check: Check,
+    recheck: Recheck,
+    failures: Failures,
+    bench: Bench,
 }
 
-pub fn bench_step(table: &[Config], frames: &[u32], words: &mut [u64], rows: &mut [u32]) -> Result<(), u32> {
-    // As above; `Config` has the layout of `struct selvedgeon_config`.
-    let answer = unsafe {
-        selvedgeon_bench(
-            table.as_ptr(),
-            table.len(),
-            frames.as_ptr(),
-            frames.len(),
-            words.as_mut_ptr(),
-            words.len(),
-            rows.as_mut_ptr(),
-            rows.len(),
-        )
-    };
-    done(answer)
+impl Library {
+    pub fn open(path: &str) -> Result<Self, String> {
+        let name = CString::new(path).map_err(|error| format!("{path}: {error}"))?;
+        // A library of the header has no code that runs when it is loaded, and its functions have the types given above.
+        unsafe {
+            let handle = dlopen(name.as_ptr(), RTLD_NOW | RTLD_LOCAL);
+            if handle.is_null() {
+                return Err(format!("{path} cannot be loaded"));
+            }
+            Ok(Library {
+                check: function(handle, c"selvedgeon_check")?,
+                recheck: function(handle, c"selvedgeon_recheck")?,
+                failures: function(handle, c"selvedgeon_failures")?,
+                bench: function(handle, c"selvedgeon_bench")?,
+            })
+        }
+    }
+
+    /// The recheck of an edit of those cycles: the cycle where it stopped, then the five changes.
+    pub fn recheck(&self, config: &Config, trace: &[u32], record: &mut Record, edit: Range<usize>) -> Result<[i32; 6], u32> {
+        let &Config { kind, n, p, q, r } = config;
+        let Record { rows, words } = record;
+        let mut answer = [0; 6];
+        #[rustfmt::skip]
+        let refusal = unsafe {
+            (self.recheck)(
+                kind, n, p.left, p.right, q.left, q.right, r.left, r.right,
+                trace.as_ptr(), trace.len(), rows.as_mut_ptr(), rows.len(), words.as_mut_ptr(), words.len(),
+                edit.start as u64, edit.end as u64, answer.as_mut_ptr(), answer.len(),
+            )
+        };
+        done(refusal).map(|()| answer)
+    }
+
+    /// The failure list: the number of its entries, of three words each.
+    pub fn failures(&self, config: &Config, trace: &[u32], list: &mut [u32]) -> Result<usize, u32> {
+        let &Config { kind, n, p, q, r } = config;
+        #[rustfmt::skip]
+        let answer = unsafe {
+            (self.failures)(
+                kind, n, p.left, p.right, q.left, q.right, r.left, r.right,
+                trace.as_ptr(), trace.len(), list.as_mut_ptr(), list.len(),
+            )
+        };
+        done((answer >> 32) as u32).map(|()| answer as u32 as usize)
+    }
 }
 
-fn done(answer: u32) -> Result<(), u32> {
+impl Engine for Library {
+    fn full_check(&self, config: &Config, trace: &[u32], record: &mut Record) -> Answer {
+        let &Config { kind, n, p, q, r } = config;
+        let Record { rows, words } = record;
+        #[rustfmt::skip]
+        let refusal = unsafe {
+            (self.check)(
+                kind, n, p.left, p.right, q.left, q.right, r.left, r.right,
+                trace.as_ptr(), trace.len(), rows.as_mut_ptr(), rows.len(), words.as_mut_ptr(), words.len(),
+            )
+        };
+        done(refusal)
+    }
+
+    fn bench_step(&self, table: &[Config], frames: &[u32], record: &mut Record) -> Answer {
+        let Record { rows, words } = record;
+        // `Config` has the layout of `struct selvedgeon_config`.
+        #[rustfmt::skip]
+        let answer = unsafe {
+            (self.bench)(
+                table.as_ptr(), table.len(), frames.as_ptr(), frames.len(),
+                words.as_mut_ptr(), words.len(), rows.as_mut_ptr(), rows.len(),
+            )
+        };
+        done(answer)
+    }
+}
+
+/// The loaded function of that name. `Function` must be the pointer type that the header gives it.
+unsafe fn function<Function>(handle: *mut c_void, name: &CStr) -> Result<Function, String> {
+    let address = dlsym(handle, name.as_ptr());
+    if address.is_null() {
+        return Err(format!("the library has no {name:?}"));
+    }
+    Ok(transmute_copy(&address))
+}
+
+fn done(answer: u32) -> Answer {
     if answer == 0 {
         Ok(())
     } else {

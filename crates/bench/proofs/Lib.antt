@@ -1,5 +1,4 @@
 -- Laws of the bench's refusals and of its two loops, and the proofs of its functions.
-pub mod Lengths
 pub mod Tested
 pub mod Steps
 pub mod Answers

@@ -11,10 +11,11 @@ use Rattle.rules.specs.Config.{Good}
 use Rattle.rules.specs.Possible.{possible}
 use Rattle.rules.specs.Step.{stepRow, stepWord}
 use Rattle.config.proofs.Refusals.{not-refused}
-use Rattle.record.specs.Traces.{frames, frameAt}
-use Rattle.record.specs.Runs.{Written}
-use Rattle.record.proofs.Loops.{written-none, written-more}
-use Rattle.bench.specs.Bench.{checkerAt, Stepped, Steppable, steppedWords, steppedRows}
+use Rattle.trace.specs.Traces.{frames, frameAt}
+use Rattle.trace.specs.Runs.{Written}
+use Rattle.trace.proofs.Written.{written-none, written-more}
+use Rattle.one_checker.specs.One.{steppedWords, steppedRows}
+use Rattle.bench.specs.Bench.{checkerAt, Stepped, Steppable}
 
 module _ (table : List Config) (fs words rows : List ℕ) where
   -- the words and the rows after the first k checkers

@@ -13,22 +13,9 @@ use Rattle.bus.proofs.Tests.{either}
 use Rattle.bus.proofs.Packed.{high-of, low-of}
 use Rattle.rules.specs.declared.config.Config.{Config}
 use Rattle.rules.specs.Possible.{wordRefusal}
-use Rattle.bench.specs.Bench.{checkerAt, refusalAt, tested, FirstBad, Tested}
-
--- ---- one checker more
-
-module _ (answer : ℕ) (c : Config) (w k : ℕ) where
-  pub tested-kept : (answer ≡ 0 → ⊥) → tested answer c w k ≡ answer
-  unfolding tested
-  tested-kept h = simp (ne-eqb answer 0 h)
-
-  pub tested-good : answer ≡ 0 → wordRefusal c w ≡ 0 → tested answer c w k ≡ 0
-  unfolding tested
-  tested-good h g = simp (eq-eqb answer 0 h, eq-eqb (wordRefusal c w) 0 g)
-
-  pub tested-bad : answer ≡ 0 → (wordRefusal c w ≡ 0 → ⊥) → tested answer c w k ≡ 256 * wordRefusal c w + k
-  unfolding tested
-  tested-bad h g = simp (eq-eqb answer 0 h, ne-eqb (wordRefusal c w) 0 g)
+use Rattle.one_checker.specs.One.{tested}
+use Rattle.one_checker.proofs.Tests.{tested-kept, tested-good, tested-bad}
+use Rattle.bench.specs.Bench.{checkerAt, refusalAt, FirstBad, Tested}
 
 -- ---- all checkers
 

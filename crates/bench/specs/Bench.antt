@@ -1,14 +1,14 @@
 -- The bench step, from document 01, "What the viewer calls" and "Refusal numbers". Assumes nothing.
 use Prim.Native.Nat.{ℕ, _+_, _*_, _/_, _%_, _<_}
 use mathlib.Core.Path.{_≡_}
-use mathlib.Core.Bool.{Bool, _&&_, cond}
 use mathlib.Core.List.{List}
-use lib.Dec.{leb, eqb}
-use lib.ListN.{length, getD, set}
+use lib.ListN.{length, getD}
 use Rattle.rules.specs.declared.config.Config.{Config}
+use Rattle.rules.specs.Frame.{frameWords}
 use Rattle.rules.specs.Possible.{wordRefusal}
 use Rattle.rules.specs.Step.{stepRow, stepWord}
-use Rattle.record.specs.Traces.{frameAt}
+use Rattle.trace.specs.Traces.{frameAt}
+use Rattle.one_checker.specs.One.{lengthsRefusal}
 
 -- what stands for a checker that the table has not: nothing is said of it
 abbrev pub blank : Config
@@ -19,14 +19,6 @@ abbrev pub checkerAt : List Config → ℕ → Config
 checkerAt table k = getD table k blank
 
 -- ---- refusals
-
--- "4K frame words (a frame each), K words, K rows"
-unfoldable pub lengthsFit : ℕ → ℕ → ℕ → ℕ → Bool
-lengthsFit checkers frames words rows = eqb frames (4 * checkers) && (eqb words checkers && eqb rows checkers)
-
--- "A bench tests 9 and 5": "9: more than 64 checkers. 5: another lent slice has not the length that is due."
-unfoldable pub lengthsRefusal : ℕ → ℕ → ℕ → ℕ → ℕ
-lengthsRefusal checkers frames words rows = cond (leb checkers 64) (cond (lengthsFit checkers frames words rows) 0 5) 9
 
 -- the refusal of checker k with its word: 0, or 1, 2, 3 or 7
 abbrev pub refusalAt : List Config → List ℕ → ℕ → ℕ
@@ -64,20 +56,7 @@ pub record BenchAnswer (table : List Config) (frames words rows words′ rows′
 
 -- what the loop over the checkers asks: the lengths fit, and no checker is bad
 pub record Steppable (table : List Config) (frames words rows : List ℕ) : Type 0 where
-  pub frames-length : length frames ≡ 4 * length table
+  pub frames-length : length frames ≡ frameWords * length table
   pub words-length : length words ≡ length table
   pub rows-length : length rows ≡ length table
   pub all-good : (k : ℕ) → k < length table → refusalAt table words k ≡ 0
-
--- ---- one checker
-
--- the answer with checker k, whose refusal counts where none before it was refused
-unfoldable pub tested : ℕ → Config → ℕ → ℕ → ℕ
-tested answer c w k = cond (eqb answer 0) (cond (eqb (wordRefusal c w) 0) 0 (256 * wordRefusal c w + k)) answer
-
--- the words and the rows with checker k stepped
-abbrev pub steppedWords : Config → List ℕ → List ℕ → ℕ → List ℕ
-steppedWords c frames words k = set words k (stepWord c (getD words k 0) (frameAt frames k))
-
-abbrev pub steppedRows : Config → List ℕ → List ℕ → List ℕ → ℕ → List ℕ
-steppedRows c frames words rows k = set rows k (stepRow c (getD words k 0) (frameAt frames k))

@@ -1,6 +1,6 @@
 // The loops over a lent table of configurations. They are not offered to the viewer, who calls `selvedgeon_bench`.
-use super::checker::step_one;
-use super::checker::test_one;
+use one_checker::step_one;
+use one_checker::test_one;
 use rules::Config;
 ghost use mathlib.Core.Path.{_≡_};
 ghost use Prim.Native.Nat.{_≤_};

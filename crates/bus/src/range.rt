@@ -1,7 +1,8 @@
 // The declared range of a port, and the value that the port's wires hold.
+use super::mask::low_ones;
 ghost use mathlib.Core.Path.{_≡_};
 ghost use Prim.Native.Nat.{ℕ, suc, _+_, _-_, _≤_, _<_};
-ghost use lib.Dec.{T, eqb};
+ghost use lib.Dec.{T, eqb, leb};
 ghost use Rattle.bus.specs.Bits.{bit, number};
 ghost use Rattle.bus.specs.Range.{width, within, valueOf};
 
@@ -57,6 +58,21 @@ impl Range {
         }
     }
 
+    // Whether the port is declared from a higher wire down to a lower one, or has one wire: then its wires stand in the value's order.
+    pub fn descends(self) -> bool
+        ensures { λ r. ⌜ r ≡ leb (self .right) (self .left) ⌝ }
+    {
+        self.right <= self.left
+    }
+
+    // The value of such a port.
+    pub fn descending_value(self, wires: u32) -> u32
+        requires { ⌜ (T (within self)) × (self .right ≤ self .left) ⌝ }
+        ensures { λ r. ⌜ r ≡ valueOf self wires ⌝ }
+    {
+        masked(self.left as u32, self.right as u32, wires)
+    }
+
     // Whether the one wire of a port of width 1 is 1: its value without putting wires in order.
     pub fn wire(self, wires: u32) -> bool
         requires { ⌜ (T (within self)) × (width self ≡ 1) ⌝ }
@@ -74,6 +90,14 @@ fn descending(left: u32, right: u32, wires: u32) -> u32
     ensures { λ r. ⌜ r ≡ number (suc (left - right)) (λ (k : ℕ). bit wires (right + k)) ⌝ }
 {
     (wires << (31 - left)) >> (31 - left + right)
+}
+
+// The same by a mask, which depends on the range alone: a loop over many samples has one shift and one mask in it, but is larger for other directions.
+fn masked(left: u32, right: u32, wires: u32) -> u32
+    requires { ⌜ (right ≤ left) × (left ≤ 31) ⌝ }
+    ensures { λ r. ⌜ r ≡ number (suc (left - right)) (λ (k : ℕ). bit wires (right + k)) ⌝ }
+{
+    (((wires as u64) >> right) & low_ones(left - right + 1)) as u32
 }
 
 // All 32 wires in the other order. The loop's bounds are constants, so that the compiler makes a bit reversal of it.

@@ -1,6 +1,10 @@
 // The refusal of a configuration.
 use bus::Range;
 use rules::Config;
+use rules::MAX_EVENTS;
+use rules::MAX_WINDOW;
+use rules::MIN_EVENTS;
+use rules::MIN_WINDOW;
 ghost use mathlib.Core.Path.{_≡_};
 ghost use Rattle.rules.specs.Config.{limits, unused, widths, ports, configRefusal};
 
@@ -27,8 +31,8 @@ fn within_limits(c: Config) -> bool
     let kind = c.kind;
     let n = c.n;
     match kind {
-        0..=2 => (2 <= n) & (n <= 32),
-        3..=5 => (1 <= n) & (n <= 1024),
+        0..=2 => (MIN_EVENTS <= n) & (n <= MAX_EVENTS),
+        3..=5 => (MIN_WINDOW <= n) & (n <= MAX_WINDOW),
         6 => n == 0,
         7..=255 => false,
     }

@@ -9,10 +9,10 @@ use lib.IntN.{ℤ, pos}
 use lib.ListN.{length, replicate, getD-replicate}
 use Rattle.rules.specs.declared.config.Config.{Config}
 use Rattle.rules.specs.declared.frame.Frame.{Frame}
-use Rattle.record.specs.Traces.{frames, traceFits}
-use Rattle.record.specs.Counts.{marks}
+use Rattle.trace.specs.Traces.{frames, traceFits}
+use Rattle.rules.specs.Rules.{marks}
 use Rattle.record.specs.Records.{checkRefusal, CheckAnswer}
-use Rattle.record.specs.Rechecks.{RecheckAnswer}
+use Rattle.recheck.specs.Rechecks.{RecheckAnswer}
 use Rattle.record.proofs.Refusals.{check-accepted}
 use Rattle.edited.specs.Edits.{Stored, NotDone, Replaced}
 

@@ -1,11 +1,13 @@
 // A caller of full check and recheck: checks a trace, changes one cycle of it and rechecks. Its proof uses the contracts of the calls alone.
-use record::RecheckResult;
+use recheck::RecheckResult;
+use recheck::recheck;
 use record::full_check;
-use record::recheck;
 use rules::Config;
+use rules::FRAME_WORDS;
 use rules::Frame;
+use rules::MARKS;
 ghost use Prim.Native.Nat.{_<_};
-ghost use Rattle.record.specs.Traces.{frames};
+ghost use Rattle.trace.specs.Traces.{frames};
 ghost use Rattle.edited.specs.Edits.{Stored, Replaced};
 
 // The frame of cycle t becomes the given one.
@@ -13,11 +15,11 @@ fn store_frame(trace: &mut [u32], t: usize, frame: Frame)
     requires { ⌜ t < frames (now trace) ⌝ }
     ensures { λ _. ⌜ Stored (now (trace .entry)) (now (trace .exit)) t frame ⌝ }
 {
-    let i = 4 * t;
-    trace[i] = frame.samples[0];
-    trace[i + 1] = frame.samples[1];
-    trace[i + 2] = frame.samples[2];
-    trace[i + 3] = frame.samples[3];
+    let first = FRAME_WORDS * t;
+    let samples = frame.samples;
+    for i in 0..FRAME_WORDS {
+        trace[first + i] = samples[i];
+    }
 }
 
 // Fills the record of the trace, replaces the frame of cycle t, and rechecks that cycle. Where the trace is refused or has no such cycle, the answer is the
@@ -37,14 +39,14 @@ pub fn replace_frame(
         return RecheckResult {
             refusal: refused,
             end: 0,
-            changes: [0; 5],
+            changes: [0; MARKS],
         };
     }
     if rows.len() <= t {
         return RecheckResult {
             refusal: 6,
             end: 0,
-            changes: [0; 5],
+            changes: [0; MARKS],
         };
     }
     store_frame(trace, t, frame);

@@ -1,8 +1,8 @@
 // Traces of 65,536 cycles and of one more.
 use bus::Range;
+use counts::totals;
+use recheck::recheck;
 use record::full_check;
-use record::recheck;
-use record::totals;
 use rules::Config;
 
 // Kind 6 over one wire: test, start state and next state on wire 0.

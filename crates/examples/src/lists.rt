@@ -4,6 +4,62 @@ use bus::Range;
 use failures::failures;
 use rules::Config;
 
+// The trace of case C.
+const CASE_C: [u32; 24] = [
+    1,
+    8,
+    0,
+    0,
+    1,
+    4,
+    0,
+    0,
+    1,
+    10,
+    0,
+    0,
+    1,
+    5,
+    0,
+    0,
+    1,
+    2,
+    0,
+    0,
+    1,
+    1,
+    0,
+    0,
+];
+
+// The trace of case I.
+const CASE_I: [u32; 24] = [
+    1,
+    1,
+    0,
+    0,
+    1,
+    0,
+    1,
+    0,
+    1,
+    1,
+    0,
+    0,
+    1,
+    0,
+    1,
+    0,
+    1,
+    1,
+    1,
+    0,
+    1,
+    0,
+    1,
+    0,
+];
+
 // A checker over P and Q.
 fn two_ports(kind: u8, n: u32, p: Range, q: Range) -> Config {
     Config {
@@ -32,32 +88,7 @@ pub fn ascending() {
         Range { left: 0, right: 3 },
         Range { left: 0, right: 0 },
     );
-    let trace = [
-        1,
-        8,
-        0,
-        0,
-        1,
-        4,
-        0,
-        0,
-        1,
-        10,
-        0,
-        0,
-        1,
-        5,
-        0,
-        0,
-        1,
-        2,
-        0,
-        0,
-        1,
-        1,
-        0,
-        0,
-    ];
+    let trace = CASE_C;
     let mut list = [9u32; 3];
     report::list(failures(c, &trace, &mut list), &list);
 }
@@ -65,32 +96,7 @@ pub fn ascending() {
 // Case I: a failure and an illegal start in one cycle. Then kind 4 with a window reset in cycle 2 and a failure after it.
 pub fn windows() {
     report::text(b"case I\n");
-    let trace = [
-        1,
-        1,
-        0,
-        0,
-        1,
-        0,
-        1,
-        0,
-        1,
-        1,
-        0,
-        0,
-        1,
-        0,
-        1,
-        0,
-        1,
-        1,
-        1,
-        0,
-        1,
-        0,
-        1,
-        0,
-    ];
+    let trace = CASE_I;
     let mut list = [9u32; 6];
     report::list(failures(checker(5, 3, 0), &trace, &mut list), &list);
     report::text(b"kind 4, window reset in cycle 2\n");

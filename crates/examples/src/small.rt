@@ -1,8 +1,36 @@
 // Examples of a few cycles.
 use bus::Range;
+use recheck::recheck;
 use record::full_check;
-use record::recheck;
 use rules::Config;
+
+// The trace of case A.
+const CASE_A: [u32; 24] = [
+    1,
+    8,
+    0,
+    0,
+    1,
+    4,
+    0,
+    0,
+    1,
+    10,
+    0,
+    0,
+    1,
+    5,
+    0,
+    0,
+    1,
+    2,
+    0,
+    0,
+    1,
+    1,
+    0,
+    0,
+];
 
 fn no_port() -> Range {
     Range { left: 0, right: 0 }
@@ -26,32 +54,7 @@ pub fn checker(kind: u8, n: u32, high: u8) -> Config {
 pub fn sequence_example() {
     report::text(b"case A, cycle 2 made 2\n");
     let c = checker(1, 4, 3);
-    let mut trace = [
-        1,
-        8,
-        0,
-        0,
-        1,
-        4,
-        0,
-        0,
-        1,
-        10,
-        0,
-        0,
-        1,
-        5,
-        0,
-        0,
-        1,
-        2,
-        0,
-        0,
-        1,
-        1,
-        0,
-        0,
-    ];
+    let mut trace = CASE_A;
     let mut rows = [0u32; 6];
     let mut words = [0u64; 6];
     full_check(c, &trace, &mut rows, &mut words);
@@ -83,32 +86,7 @@ pub fn time_example() {
 pub fn false_record() {
     report::text(b"case A, false record\n");
     let c = checker(1, 4, 3);
-    let trace = [
-        1,
-        8,
-        0,
-        0,
-        1,
-        4,
-        0,
-        0,
-        1,
-        10,
-        0,
-        0,
-        1,
-        5,
-        0,
-        0,
-        1,
-        2,
-        0,
-        0,
-        1,
-        1,
-        0,
-        0,
-    ];
+    let trace = CASE_A;
     let mut rows = [7, 7, 7, 7, 7, 7];
     let mut words = [6, 0, 0, 2, 5, 6];
     report::answer(recheck(c, &trace, &mut rows, &mut words, 2, 3));

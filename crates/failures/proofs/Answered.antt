@@ -1,44 +1,47 @@
 -- The answers of the failure list's call, from the tests of the code. The lengths are tested as for a full check, for a record of the length that is due
 -- (`kept`): so no refusal 5 comes of it, and its refusals are the list's. Then the slice decides: it must have three words for each entry.
 -- Assumes nothing.
-use Prim.Native.Nat.{ℕ, _/_, _%_, _*_, _+_, _≤_, _<_}
+use Prim.Native.Nat.{ℕ, _/_, _*_, _+_, _≤_, _<_}
 use mathlib.Core.Path.{_≡_, refl, sym, ap, _∙_}
 use mathlib.Core.Bool.{Bool, true, false, cond}
 use mathlib.Core.List.{List, _++_}
 use native.Mathlib.Nat.{zero-add}
 use native.Mathlib.Omega.{arith}
 use borrow.Author.Tests.{eq-eqb, le-leb, lt-leb}
-use lib.Dec.{eqb, leb, leb→le}
+use lib.Dec.{eqb, leb}
 use lib.ListN.{length, drop, replicate, length-replicate}
 use lib.Seq.{sets, sets-eq}
-use Rattle.bus.proofs.Tests.{is-true, and-right}
+use Rattle.bus.proofs.Tests.{is-true}
 use Rattle.rules.specs.declared.config.Config.{Config}
 use Rattle.rules.specs.Config.{configRefusal, Good}
-use Rattle.record.specs.Traces.{frames, traceFits}
+use Rattle.rules.specs.Frame.{frameWords}
+use Rattle.trace.specs.Traces.{frames, traceFits}
 use Rattle.record.specs.Records.{recordFits, checkRefusal}
-use Rattle.record.proofs.Refusals.{Accepted, check-accepted}
-use Rattle.failures.specs.Lists.{wordsOf}
-use Rattle.failures.specs.Answers.{failuresOf, listRefusal, ListAnswer}
-use Rattle.failures.proofs.Chosen.{words-length}
+use Rattle.record.proofs.Refusals.{Accepted, check-accepted, accepted-short}
+use Rattle.listed.specs.Lists.{wordsOf}
+use Rattle.passes.specs.Listed.{failuresOf}
+use Rattle.failures.specs.Answers.{listRefusal, ListAnswer}
+use Rattle.listed.proofs.Chosen.{words-length}
 
--- r is the refusal of the lengths
+-- r is the refusal of the lengths, for as many cycles as the trace has
 module _
-    (c : Config) (trace : List ℕ) (r : ℕ)
-    (tested : (ts rs ws : List ℕ) → length ts ≡ length trace → length rs ≡ length trace / 4 → length ws ≡ length trace / 4 → r ≡ checkRefusal c ts rs ws)
+    (c : Config) (trace : List ℕ) (cycles r : ℕ) (are : cycles ≡ length trace / frameWords)
+    (tested : (ts rs ws : List ℕ) → length ts ≡ length trace → length rs ≡ cycles → length ws ≡ cycles → r ≡ checkRefusal c ts rs ws)
   where
     abbrev kept : List ℕ
-    kept = replicate (length trace / 4) 0
+    kept = replicate cycles 0
 
-    due : length kept ≡ length trace / 4
-    due = length-replicate (length trace / 4) 0
+    due : length kept ≡ frames trace
+    unfolding frames
+    due = length-replicate cycles 0 ∙ are
 
     as-check : r ≡ checkRefusal c trace kept kept
-    as-check = tested trace kept kept refl due due
+    as-check = tested trace kept kept refl (length-replicate cycles 0) (length-replicate cycles 0)
 
     refused-as-check : (list : List ℕ) → (r ≡ 0 → ⊥) → r ≡ listRefusal c trace list
-    unfolding checkRefusal recordFits frames listRefusal
+    unfolding checkRefusal recordFits listRefusal
     refused-as-check list h =
-        by (eqb (configRefusal c) 0) (traceFits trace) _ (rw (due, eq-eqb (length trace / 4) (length trace / 4) refl) at as-check)
+        by (eqb (configRefusal c) 0) (traceFits trace) _ (rw (due, eq-eqb (frames trace) (frames trace) refl) at as-check)
       where
         by : (p q : Bool) (x : ℕ) → r ≡ cond p (cond q 0 4) (configRefusal c) → r ≡ cond p (cond q x 4) (configRefusal c)
         by true true x e = absurd (h e)
@@ -53,8 +56,7 @@ module _
       ok = check-accepted c trace kept kept (sym as-check ∙ z)
 
       pub accepted-lengths : Good c × (frames trace ≤ 65536)
-      unfolding traceFits
-      accepted-lengths = (ok .good, leb→le (frames trace) 65536 (and-right (eqb (length trace % 4) 0) (leb (frames trace) 65536) (ok .fits)))
+      accepted-lengths = (ok .good, accepted-short ok)
 
       module _ (list : List ℕ) (count : ℕ) (all : count ≡ length (failuresOf c trace)) where
         decided : (b : Bool) → leb (3 * length (failuresOf c trace)) (length list) ≡ b → listRefusal c trace list ≡ cond b 0 8

@@ -1,11 +1,2 @@
--- Laws of the failure list, the claims about it, and the proofs of its calls.
-pub mod Cases
-pub mod Chosen
-pub mod Ascending
-pub mod Claims
-pub mod Found
-pub mod Running
+-- The answers of the failure list's call.
 pub mod Answered
-pub mod Attempts
-pub mod Writing
-pub mod StepEntries

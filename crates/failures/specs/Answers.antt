@@ -7,12 +7,9 @@ use lib.Dec.{eqb, leb}
 use lib.ListN.{length, drop}
 use Rattle.rules.specs.declared.config.Config.{Config}
 use Rattle.rules.specs.Config.{configRefusal}
-use Rattle.record.specs.Traces.{frames, frameAt, traceFits}
-use Rattle.failures.specs.Lists.{Entry, failuresTo, wordsOf}
-
--- the entries of a lent trace
-unfoldable pub failuresOf : Config → List ℕ → List Entry
-failuresOf c trace = failuresTo c (frameAt trace) (frames trace)
+use Rattle.trace.specs.Traces.{traceFits}
+use Rattle.listed.specs.Lists.{wordsOf}
+use Rattle.passes.specs.Listed.{failuresOf}
 
 -- refusals 1, 2, 3, 4 and 8, in that order: "8: three words for each entry (failure or illegal start) exceed the list's slice"
 unfoldable pub listRefusal : Config → List ℕ → List ℕ → ℕ

@@ -1,11 +1,3 @@
--- Laws of records and rechecks, and the claims about them.
-pub mod Runs
-pub mod Loops
-pub mod Tallies
-pub mod Signed
-pub mod Running
-pub mod Going
-pub mod Demand
-pub mod Limits
+-- The refusals of a full check, and what its run leaves.
 pub mod Refusals
-pub mod Answers
+pub mod Checked

@@ -1,23 +1,24 @@
 -- The refusal of a full check and of a recheck, from the tests of the code, which go by the lengths. Assumes nothing.
-use Prim.Native.Nat.{ℕ, _/_, _%_}
+use Prim.Native.Nat.{ℕ, _/_, _%_, _≤_}
 use mathlib.Core.Path.{_≡_, refl, sym}
 use mathlib.Core.Bool.{Bool, true, false, _&&_, cond}
 use mathlib.Core.List.{List}
 use native.Mathlib.Omega.{arith}
 use borrow.Author.Tests.{eqb-true, eqb-false}
-use lib.Dec.{T, eqb, leb}
+use lib.Dec.{T, eqb, leb, leb→le}
 use lib.ListN.{length}
-use Rattle.bus.proofs.Tests.{of-true}
+use Rattle.bus.proofs.Tests.{of-true, and-right}
 use Rattle.rules.specs.declared.config.Config.{Config}
 use Rattle.rules.specs.Config.{configRefusal, Good}
-use Rattle.record.specs.Traces.{frames, traceFits}
+use Rattle.rules.specs.Frame.{frameWords}
+use Rattle.trace.specs.Traces.{frames, traceFits}
 use Rattle.record.specs.Records.{TrueRecord, recordFits, checkRefusal, CheckAnswer}
 
-pub check-refusal : (c : Config) (ts rs ws : List ℕ) (trace rows words : ℕ) → length ts ≡ trace → length rs ≡ rows → length ws ≡ words → (a b d : Bool)
-    → eqb (configRefusal c) 0 ≡ a → (eqb (trace % 4) 0 && leb (trace / 4) 65536) ≡ b → (eqb rows (trace / 4) && eqb words (trace / 4)) ≡ d
-    → checkRefusal c ts rs ws ≡ cond a (cond b (cond d 0 5) 4) (configRefusal c)
+pub check-refusal : (c : Config) (ts rs ws : List ℕ) (trace rows words cycles : ℕ) → length ts ≡ trace → length rs ≡ rows → length ws ≡ words
+    → cycles ≡ trace / frameWords → (a b d : Bool) → eqb (configRefusal c) 0 ≡ a → (eqb (trace % frameWords) 0 && leb cycles 65536) ≡ b
+    → (eqb rows cycles && eqb words cycles) ≡ d → checkRefusal c ts rs ws ≡ cond a (cond b (cond d 0 5) 4) (configRefusal c)
 unfolding checkRefusal traceFits recordFits frames
-check-refusal c ts rs ws trace rows words p q r a b d e f g = rw (p, q, r, e, f, g)
+check-refusal c ts rs ws trace rows words cycles p q r k a b d e f g = rw (p, q, r, ← k, e, f, g)
 
 -- what a check that is not refused may go by
 pub record Accepted (c : Config) (trace rows words : List ℕ) : Type 0 where
@@ -44,6 +45,11 @@ check-accepted c trace rows words h =
     by true true false e p q r s z = absurd (omega arith)
     by true false d e p q r s z = absurd (omega arith)
     by false b d e p q r s z = absurd (eqb-false (configRefusal c) 0 p z)
+
+-- a trace that is accepted has at most 65,536 cycles
+pub accepted-short : {c : Config} {trace rows words : List ℕ} → Accepted c trace rows words → frames trace ≤ 65536
+unfolding traceFits
+accepted-short {trace = trace} ok = leb→le (frames trace) 65536 (and-right (eqb (length trace % frameWords) 0) (leb (frames trace) 65536) (ok .fits))
 
 -- the answers of the full check
 pub not-checked : (c : Config) (trace rows words : List ℕ) (r : ℕ) → r ≡ checkRefusal c trace rows words → (r ≡ 0 → ⊥)

@@ -1,6 +1,2 @@
--- What the contracts of full check, recheck and totals cite.
-pub mod Traces
-pub mod Runs
-pub mod Counts
+-- What the contract of the full check cites.
 pub mod Records
-pub mod Rechecks

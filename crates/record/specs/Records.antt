@@ -8,7 +8,7 @@ use lib.ListN.{length, getD}
 use Rattle.rules.specs.declared.config.Config.{Config}
 use Rattle.rules.specs.Config.{configRefusal}
 use Rattle.rules.specs.Rules.{row, word}
-use Rattle.record.specs.Traces.{frames, frameAt, traceFits}
+use Rattle.trace.specs.Traces.{frames, frameAt, traceFits}
 
 -- "A trace's true record under a configuration is the rows and words that the rules above give"
 pub record TrueRecord (c : Config) (trace rows words : List ℕ) : Type 0 where

@@ -1,7 +1,7 @@
 // What the programs write to standard output.
 use failures::FailureCount;
 use libc::STDOUT_FILENO;
-use record::RecheckResult;
+use recheck::RecheckResult;
 ghost use lib.IntN.{pos};
 ghost use lib.Signed.{_<ℤ_};
 

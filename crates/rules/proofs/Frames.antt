@@ -1,4 +1,4 @@
--- Frames of four given words of 32 bits are proper. Assumes nothing.
+-- Frames of given words of 32 bits are proper. Assumes nothing.
 use Prim.Native.Nat.{ℕ, zero, suc, _^_, _<_}
 use mathlib.Core.Path.{refl}
 use mathlib.Core.List.{[], _∷_}
@@ -12,7 +12,7 @@ abbrev pub frameOf : ℕ → ℕ → ℕ → ℕ → Frame
 frameOf n p q r = record { samples = n ∷ p ∷ q ∷ r ∷ [] }
 
 pub frame-proper : (n p q r : ℕ) → n < 2 ^ 32 → p < 2 ^ 32 → q < 2 ^ 32 → r < 2 ^ 32 → Proper (frameOf n p q r)
-frame-proper n p q r hn hp hq hr = record { four = refl; small = small }
+frame-proper n p q r hn hp hq hr = record { words = refl; small = small }
   where
     small : (i : ℕ) → getD (n ∷ p ∷ q ∷ r ∷ []) i 0 < 2 ^ 32
     small zero = hn

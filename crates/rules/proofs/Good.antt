@@ -8,7 +8,7 @@ use lib.Dec.{T, leb, leb→le, eqb, eqb→eq, lit≤}
 use Rattle.bus.specs.Range.{width, within}
 use Rattle.bus.proofs.Tests.{and-left, and-right}
 use Rattle.rules.specs.declared.config.Config.{Config}
-use Rattle.rules.specs.Config.{Family, family, limitsOf, unused, widthsOf, widths, limits, ports, configRefusal, Good}
+use Rattle.rules.specs.Config.{Family, family, minEvents, maxEvents, minWindow, maxWindow, limitsOf, unused, widthsOf, widths, limits, ports, configRefusal, Good}
 use Rattle.rules.specs.Possible.{possibleOf, possible}
 use Rattle.rules.specs.Config.Family.{sequence, time, transition, none}
 
@@ -106,8 +106,8 @@ module _ (c : Config) (good : Good c) where
       subst (λ (j : Family). T (widthsOf j c)) e (and-right (within (c .p) && (within (c .q) && within (c .r))) (widths c) (three .2))
 
 pub record SequenceConfig (c : Config) : Type 0 where
-  pub low : 2 ≤ c .n
-  pub high : c .n ≤ 32
+  pub low : minEvents ≤ c .n
+  pub high : c .n ≤ maxEvents
   pub p-width : width (c .p) ≡ c .n
 
 pub sequence-config : (c : Config) → Good c → family (c .kind) ≡ sequence → SequenceConfig c
@@ -115,14 +115,14 @@ unfolding limitsOf widthsOf
 sequence-config c good e =
     let l = limits-of c good sequence e in
     record {
-      low = leb→le 2 (c .n) (and-left (leb 2 (c .n)) (leb (c .n) 32) l);
-      high = leb→le (c .n) 32 (and-right (leb 2 (c .n)) (leb (c .n) 32) l);
+      low = leb→le minEvents (c .n) (and-left (leb minEvents (c .n)) (leb (c .n) maxEvents) l);
+      high = leb→le (c .n) maxEvents (and-right (leb minEvents (c .n)) (leb (c .n) maxEvents) l);
       p-width = eqb→eq (width (c .p)) (c .n) (and-left (eqb (width (c .p)) (c .n)) (unused (c .q) && unused (c .r)) (widths-of c good sequence e));
     }
 
 pub record TimeConfig (c : Config) : Type 0 where
-  pub low : 1 ≤ c .n
-  pub high : c .n ≤ 1024
+  pub low : minWindow ≤ c .n
+  pub high : c .n ≤ maxWindow
   pub p-width : width (c .p) ≡ 1
   pub q-width : width (c .q) ≡ 1
 
@@ -132,8 +132,8 @@ time-config c good e =
     let l = limits-of c good time e in
     let v = widths-of c good time e in
     record {
-      low = leb→le 1 (c .n) (and-left (leb 1 (c .n)) (leb (c .n) 1024) l);
-      high = leb→le (c .n) 1024 (and-right (leb 1 (c .n)) (leb (c .n) 1024) l);
+      low = leb→le minWindow (c .n) (and-left (leb minWindow (c .n)) (leb (c .n) maxWindow) l);
+      high = leb→le (c .n) maxWindow (and-right (leb minWindow (c .n)) (leb (c .n) maxWindow) l);
       p-width = eqb→eq (width (c .p)) 1 (and-left (eqb (width (c .p)) 1) (eqb (width (c .q)) 1 && unused (c .r)) v);
       q-width =
           eqb→eq (width (c .q)) 1

@@ -11,7 +11,7 @@ use Rattle.bus.specs.Range.{width, within}
 use Rattle.bus.proofs.Bits.{toBit-lt, eqb-toBit}
 use Rattle.bus.proofs.Wires.{wiresFor, wires-small, value-wires}
 use Rattle.rules.specs.declared.config.Config.{Config}
-use Rattle.rules.specs.Config.{family}
+use Rattle.rules.specs.Config.{family, maxWindow}
 use Rattle.rules.specs.Config.Family.{time}
 use Rattle.rules.specs.Frame.{Trace, up}
 use Rattle.rules.specs.Rules.{word, wordBefore}
@@ -57,7 +57,7 @@ module _ (c : Config) (n : 1 ≤ c .n) (k : family (c .kind) ≡ time) (v : widt
   counted zero = word-left c (once c) n k 0 refl ∙ rw (starts 0 0) (omega arith)
   counted (suc t) = word-left c (once c) n k (suc t) refl ∙ rw (starts (word c (once c) t) (suc t), eqb·suc-zero t, counted t) (omega arith)
 
-  pub time-left : c .n ≤ 1024 → (w : ℕ) → T (possibleOf time c w) → Left c w
+  pub time-left : c .n ≤ maxWindow → (w : ℕ) → T (possibleOf time c w) → Left c w
   unfolding possibleOf once
   time-left high w h = record {
     trace = once c;

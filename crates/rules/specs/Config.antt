@@ -18,10 +18,22 @@ pick false a b = b
 unfoldable pub family : ℕ → Family
 family kind = pick (leb kind 2) sequence (pick (leb kind 5) time (pick (leb kind 6) transition none))
 
--- "n = num_cks": 2 to 32, 1 to 1,024, must be 0
+-- "n = num_cks": "2 to 32" events, a window of "1 to 1,024" cycles, "must be 0"
+abbrev pub minEvents : ℕ
+minEvents = 2
+
+abbrev pub maxEvents : ℕ
+maxEvents = 32
+
+abbrev pub minWindow : ℕ
+minWindow = 1
+
+abbrev pub maxWindow : ℕ
+maxWindow = 1024
+
 unfoldable pub limitsOf : Family → ℕ → Bool
-limitsOf sequence n = leb 2 n && leb n 32
-limitsOf time n = leb 1 n && leb n 1024
+limitsOf sequence n = leb minEvents n && leb n maxEvents
+limitsOf time n = leb minWindow n && leb n maxWindow
 limitsOf transition n = eqb n 0
 limitsOf none n = false
 

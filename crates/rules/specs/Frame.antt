@@ -8,13 +8,17 @@ use Rattle.bus.specs.Range.{valueOf}
 use Rattle.rules.specs.declared.config.Config.{Config}
 use Rattle.rules.specs.declared.frame.Frame.{Frame}
 
--- "A frame is four 32-bit words by value: reset, P, Q, R."
+-- "A frame is four 32-bit words by value": so many words it has
+abbrev pub frameWords : ℕ
+frameWords = 4
+
+-- "reset, P, Q, R"
 abbrev pub sample : Frame → ℕ → ℕ
 sample f i = getD (f .samples) i 0
 
--- a frame as a lent trace has it: four words of 32 bits
+-- a frame as a lent trace has it: words of 32 bits
 pub record Proper (f : Frame) : Type 0 where
-  pub four : length (f .samples) ≡ 4
+  pub words : length (f .samples) ≡ frameWords
   pub small : (i : ℕ) → sample f i < 2 ^ 32
 
 -- "Reset_n is bit 0 of the first word; other bits there are ignored." Whether the frame is out of reset.

@@ -20,18 +20,21 @@ pub record Marks : Type 0 where
   pub closed : Bool
   pub restarted : Bool
 
+-- how many marks there are: bit i of a row is the i-th of them
+abbrev pub marks : ℕ
+marks = 5
+
 unfoldable pub rowOf : Marks → ℕ
-rowOf m = toBit (m .failure) + 2 * toBit (m .illegal) + 4 * toBit (m .opened) + 8 * toBit (m .closed) + 16 * toBit (m .restarted)
+rowOf m = 1 * toBit (m .failure) + 2 * toBit (m .illegal) + 4 * toBit (m .opened) + 8 * toBit (m .closed) + 16 * toBit (m .restarted)
+
+-- the marks of a cycle where a check can fail and one can be opened, and nothing else
+abbrev pub checkMarks : Bool → Bool → Marks
+checkMarks failure opened = record { failure = failure; illegal = false; opened = opened; closed = false; restarted = false }
 
 -- The marks that a family's rules give for a cycle out of reset. Mark 1 in every family: some accepted start has its required check violated there.
 unfoldable pub marksOf : Family → Config → Trace → ℕ → Marks
-marksOf sequence c tr t = record {
-  failure = fails (sequenceChecks c tr) t;
-  illegal = false;
-  opened = cond (eqb (c .kind) 0) (mostSeen c tr t) (accepted (sequenceChecks c tr) t);
-  closed = false;
-  restarted = false;
-}
+marksOf sequence c tr t =
+    checkMarks (fails (sequenceChecks c tr) t) (cond (eqb (c .kind) 0) (mostSeen c tr t) (accepted (sequenceChecks c tr) t))
 marksOf time c tr t = record {
   failure = fails (timeChecks c tr) t;
   illegal = illegalStart c tr t;
@@ -39,14 +42,8 @@ marksOf time c tr t = record {
   closed = windowClosed c tr t;
   restarted = windowReset c tr t;
 }
-marksOf transition c tr t = record {
-  failure = fails (transitionChecks c tr) t;
-  illegal = false;
-  opened = accepted (transitionChecks c tr) t;
-  closed = false;
-  restarted = false;
-}
-marksOf none c tr t = record { failure = false; illegal = false; opened = false; closed = false; restarted = false }
+marksOf transition c tr t = checkMarks (fails (transitionChecks c tr) t) (accepted (transitionChecks c tr) t)
+marksOf none c tr t = checkMarks false false
 
 -- "The open word says what is unfinished after a cycle."
 unfoldable pub openOf : Family → Config → Trace → ℕ → ℕ

@@ -10,7 +10,7 @@ use Rattle.rules.specs.declared.frame.Frame.{Frame}
 use Rattle.rules.specs.Config.{Family, family}
 use Rattle.rules.specs.Config.Family.{sequence, time, transition, none}
 use Rattle.rules.specs.Frame.{up, P, Q, R}
-use Rattle.rules.specs.Rules.{Marks, rowOf}
+use Rattle.rules.specs.Rules.{Marks, checkMarks, rowOf}
 
 module _ (c : Config) (w : ℕ) (f : Frame) where
   -- ---- cycle sequence: bit j of the open word is an attempt that is now tested on event bit n−2−j
@@ -47,13 +47,7 @@ module _ (c : Config) (w : ℕ) (f : Frame) where
   -- ---- all kinds
 
   unfoldable pub stepMarksOf : Family → Marks
-  stepMarksOf sequence = record {
-    failure = attemptFails;
-    illegal = false;
-    opened = cond (eqb (c .kind) 0) (attempt (c .n - 2)) startsAttempt;
-    closed = false;
-    restarted = false;
-  }
+  stepMarksOf sequence = checkMarks attemptFails (cond (eqb (c .kind) 0) (attempt (c .n - 2)) startsAttempt)
   stepMarksOf time = record {
     failure = pends && not (eqb (Q c f) 1) && not restart;
     illegal = eqb (c .kind) 5 && start && pends;
@@ -61,14 +55,8 @@ module _ (c : Config) (w : ℕ) (f : Frame) where
     closed = eqb w 1 && not restart;
     restarted = restart;
   }
-  stepMarksOf transition = record {
-    failure = pends && not (eqb (P c f) (w - 2 ^ 32));
-    illegal = false;
-    opened = eqb (P c f) (Q c f);
-    closed = false;
-    restarted = false;
-  }
-  stepMarksOf none = record { failure = false; illegal = false; opened = false; closed = false; restarted = false }
+  stepMarksOf transition = checkMarks (pends && not (eqb (P c f) (w - 2 ^ 32))) (eqb (P c f) (Q c f))
+  stepMarksOf none = checkMarks false false
 
   unfoldable pub stepOpenOf : Family → ℕ
   stepOpenOf sequence = number (c .n - 1) attempt

@@ -1,6 +1,9 @@
 // What is sampled in one cycle.
 
-// Four words of 32 wires: reset, P, Q, R.
+// The words of a frame.
+pub const FRAME_WORDS: usize = 4;
+
+// The words of 32 wires: reset, P, Q, R.
 pub struct Frame {
-    pub samples: [u32; 4],
+    pub samples: [u32; FRAME_WORDS],
 }

@@ -1,6 +1,18 @@
 // The rules of the checkers: configurations and frames, and, in specs/, what a checker marks.
 mod config;
 mod frame;
+mod marks;
 
 pub use config::Config;
+pub use config::MAX_EVENTS;
+pub use config::MAX_WINDOW;
+pub use config::MIN_EVENTS;
+pub use config::MIN_WINDOW;
+pub use frame::FRAME_WORDS;
 pub use frame::Frame;
+pub use marks::CLOSED;
+pub use marks::FAILURE;
+pub use marks::ILLEGAL_START;
+pub use marks::MARKS;
+pub use marks::OPENED;
+pub use marks::RESTARTED;

@@ -7,8 +7,8 @@ use super::cases::six;
 use super::cases::three;
 use super::cases::time;
 use failures::failures;
+use recheck::recheck;
 use record::full_check;
-use record::recheck;
 use rules::Config;
 
 // The failure lists of case F's samples under kind 1, and of case C: cycle, mark, start.

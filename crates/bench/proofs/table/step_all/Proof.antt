@@ -49,14 +49,15 @@ use denote.Signature.{plain}
 use Rattle.rules.specs.declared.config.Config.{Config}
 use Rattle.rules.proofs.config.Config as C
 use Rattle.rules.proofs.config.Config.Laws as C′
-use Rattle.bench.specs.Bench.{checkerAt, Steppable, steppedWords, steppedRows}
+use Rattle.one_checker.specs.One.{steppedWords, steppedRows}
+use Rattle.bench.specs.Bench.{checkerAt, Steppable}
 use Rattle.bench.proofs.Steps.{wordsTo, rowsTo, words-length, rows-length, step-asks, stepped-all}
 use Rattle.bench.proofs.Elements.{tableTy, Upto, Nearer, Nearer-wf, holds, empty, Lies, typed, made, place-fits, opens-checker, shuts-checker}
 use Rattle.bench.proofs.Again.{at, LentAgain, lends-again, comes-back}
-use Rattle.bench.proofs.checker.step_one as step-one
-use Rattle.bench.proofs.checker.step_one.Symbol as step-one-def
-use Rattle.bench.proofs.checker.step_one.Symbol.{name as #bench·checker·step-one}
-use Rattle.bench.proofs.checker.step_one.Met as step-one-thm
+use Rattle.one_checker.proofs.step_one as step-one
+use Rattle.one_checker.proofs.step_one.Symbol as step-one-def
+use Rattle.one_checker.proofs.step_one.Symbol.{name as #one-checker·checker·step-one}
+use Rattle.one_checker.proofs.step_one.Met as step-one-thm
 use Rattle.bench.proofs.table.step_all.Key.{name as #bench·table·step-all}
 use Rattle.bench.proofs.table.step_all as step-all
 use Rattle.bench.proofs.table.step_all.Statement as stated
@@ -186,7 +187,7 @@ module _ {M : Type 1} (𝓤 : URA M) (H : Heap 𝓤) (A : Atoms 𝓤) (W : Given
       nothing ! $ move ! (4 ∷ 0 ∷ []) $ fjoin ! $ move ! (3 ∷ 0 ∷ []) $ fjoin ! $ move ! (2 ∷ 0 ∷ []) $ fjoin ! $ move ! (1 ∷ 0 ∷ []) $ fjoin ! $ frame ! $
       feqI ! (List Val) (vunit ∷ []) (vunit ∷ []) refl $ done !
 
-  module _ (rt : Room C.the-row n) (rf : Room u32 (length (now f))) (rw : Room u64 (length (now w))) (rr : Room u32 (length (now r))) (ok : Steppable (now t) (now f) (now w) (now r)) (𝓣 : Tables 𝓤 H) (known : Triple 𝓤 (𝓣 .C #bench·checker·step-one) (StepOne 𝓤 H A mem run)) where
+  module _ (rt : Room C.the-row n) (rf : Room u32 (length (now f))) (rw : Room u64 (length (now w))) (rr : Room u32 (length (now r))) (ok : Steppable (now t) (now f) (now w) (now r)) (𝓣 : Tables 𝓤 H) (known : Triple 𝓤 (𝓣 .C #one-checker·checker·step-one) (StepOne 𝓤 H A mem run)) where
     module _ (l₀ l₁ l₂ l₃ l₄ l₅ l₆ l₇ l₈ l₉ l₁₀ l₁₁ l₁₂ l₁₃ l₁₄ l₁₅ : ℕ) where
       abbrev En : Env 𝓤 H
       En = (tyUnit, l₀) ∷ ((tableTy (named 0)), l₁) ∷ (framesTy, l₂) ∷ (wordsTy (named 2), l₃) ∷ (rowsTy (named 3), l₄) ∷ (tyInt w64, l₅) ∷ (tyInt w64, l₆) ∷ (tyBool, l₇) ∷ (tyUnit, l₈) ∷ (tyInt w64, l₉) ∷ (tyPtr, l₁₀) ∷ (C′.mir, l₁₁)
@@ -299,7 +300,7 @@ module _ {M : Type 1} (𝓤 : URA M) (H : Heap 𝓤) (A : Atoms 𝓤) (W : Given
         move ! (7 ∷ 3 ∷ 6 ∷ 2 ∷ 5 ∷ 1 ∷ 4 ∷ 0 ∷ []) $
         first ! $ blocks ! $ loops ! 𝓣 (Nearer n) (Nearer-wf n) (At l₀ l₁ l₂ l₃ l₄ l₅ l₆ l₇ l₈ l₉ l₁₀ l₁₁ l₁₂ l₁₃ l₁₄ l₁₅) (turns l₀ l₁ l₂ l₃ l₄ l₅ l₆ l₇ l₈ l₉ l₁₀ l₁₁ l₁₂ l₁₃ l₁₄ l₁₅) (0, zero-le)))))))))))))))))
 
-module _ {M : Type 1} (𝓤 : URA M) (H : Heap 𝓤) (A : Atoms 𝓤) (W : Given 𝓤 H A) (mem : Memory → SProp 𝓤) (run : Routine → Fun 𝓤) (𝓣 : Tables 𝓤 H) (known : Triple 𝓤 (𝓣 .C #bench·checker·step-one) (StepOne 𝓤 H A mem run)) where
+module _ {M : Type 1} (𝓤 : URA M) (H : Heap 𝓤) (A : Atoms 𝓤) (W : Given 𝓤 H A) (mem : Memory → SProp 𝓤) (run : Routine → Fun 𝓤) (𝓣 : Tables 𝓤 H) (known : Triple 𝓤 (𝓣 .C #one-checker·checker·step-one) (StepOne 𝓤 H A mem run)) where
   step-all-walks : Walks 𝓤 H A step-all.ended stayed (WpFn 𝓤 H (𝓣 .C) (𝓣 .Λ) code.function) (step-all.clauses 𝓤 H A mem run)
   step-all-walks = walked 𝓤 H A step-all.ended stayed (step-all.clauses 𝓤 H A mem run) (WpFn 𝓤 H (𝓣 .C) (𝓣 .Λ) code.function)
       (λ κs. (slice-vals, (slice-vals, (slice-vals, (slice-vals, tt)))))
@@ -319,4 +320,4 @@ step-all-spec 𝓤 H 𝓜 𝓖 𝓡 =
     entered 𝓤 H (tripleOf 𝓤 H (𝓖 .A) step-all.signature (step-all.spec 𝓤 H (𝓖 .A) (𝓜 .mem) (𝓡 .run)))
     (tables 𝓤 H 𝓜 𝓡 code.env .C) (tables 𝓤 H 𝓜 𝓡 code.env .Λ) #bench·table·step-all code.function (code.unfolded 𝓤 H 𝓜 𝓡)
     (step-all-meets 𝓤 H (𝓖 .A) (givenOf 𝓤 H 𝓜 𝓖) (𝓜 .mem) (𝓡 .run) (tablesOf 𝓤 H 𝓜 (tables 𝓤 H 𝓜 𝓡 code.env))
-    (cited 𝓤 H (StepOne 𝓤 H (𝓖 .A) (𝓜 .mem) (𝓡 .run)) 𝓜 𝓡 code.env #bench·checker·step-one step-one-def.routine code.calls-bench·checker·step-one (step-one-thm.met 𝓤 H 𝓜 𝓖 𝓡)))
+    (cited 𝓤 H (StepOne 𝓤 H (𝓖 .A) (𝓜 .mem) (𝓡 .run)) 𝓜 𝓡 code.env #one-checker·checker·step-one step-one-def.routine code.calls-one-checker·step-one (step-one-thm.met 𝓤 H 𝓜 𝓖 𝓡)))

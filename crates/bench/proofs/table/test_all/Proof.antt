@@ -48,13 +48,14 @@ use denote.Triple.Walked.{says, needs, Stays, stay-none-slice, walkOf, goes-none
 use Rattle.rules.specs.declared.config.Config.{Config}
 use Rattle.rules.proofs.config.Config as C
 use Rattle.rules.proofs.config.Config.Laws as C′
-use Rattle.bench.specs.Bench.{checkerAt, tested, Tested}
+use Rattle.one_checker.specs.One.{tested}
+use Rattle.bench.specs.Bench.{checkerAt, Tested}
 use Rattle.bench.proofs.Tested.{testedTo, tested-all}
 use Rattle.bench.proofs.Elements.{tail, tableTy, Lies, typed, made, place-fits, Lent, opens-checker, shuts-checker}
-use Rattle.bench.proofs.checker.test_one as one
-use Rattle.bench.proofs.checker.test_one.Symbol as one-def
-use Rattle.bench.proofs.checker.test_one.Symbol.{name as #bench·checker·test-one}
-use Rattle.bench.proofs.checker.test_one.Met as one-thm
+use Rattle.one_checker.proofs.test_one as one
+use Rattle.one_checker.proofs.test_one.Symbol as one-def
+use Rattle.one_checker.proofs.test_one.Symbol.{name as #one-checker·checker·test-one}
+use Rattle.one_checker.proofs.test_one.Met as one-thm
 use Rattle.bench.proofs.table.test_all.Key.{name as #bench·table·test-all}
 use Rattle.bench.proofs.table.test_all as all
 use Rattle.bench.proofs.table.test_all.Statement as stated
@@ -150,7 +151,7 @@ module _ {M : Type 1} (𝓤 : URA M) (H : Heap 𝓤) (A : Atoms 𝓤) (W : Given
   Nearer-wf : WellFounded Nearer
   Nearer-wf = InvImage·wf (λ (i : Upto). n - i .0) (Nat·lt-wfRel .wf)
 
-  module _ (𝓣 : Tables 𝓤 H) (known : Triple 𝓤 (𝓣 .C #bench·checker·test-one) (One 𝓤 H A mem run)) where
+  module _ (𝓣 : Tables 𝓤 H) (known : Triple 𝓤 (𝓣 .C #one-checker·checker·test-one) (One 𝓤 H A mem run)) where
     module _ (l₀ l₁ l₂ l₃ l₄ l₅ l₆ l₇ l₈ l₉ : ℕ) where
       abbrev words : Ty
       words = sliceTy (tyRef (named 1) imm (tyInt w64))
@@ -235,14 +236,14 @@ module _ {M : Type 1} (𝓤 : URA M) (H : Heap 𝓤) (A : Atoms 𝓤) (W : Given
         move ! (1 ∷ 3 ∷ 0 ∷ 2 ∷ []) $ first ! $ blocks ! $ loops ! 𝓣 Nearer Nearer-wf (At l₀ l₁ l₂ l₃ l₄ l₅ l₆ l₇ l₈ l₉) (turns l₀ l₁ l₂ l₃ l₄ l₅ l₆ l₇ l₈ l₉) (0, (zero-le, lit< tt))))))))))))
 
 module _ {M : Type 1} (𝓤 : URA M) (H : Heap 𝓤) (A : Atoms 𝓤) (W : Given 𝓤 H A) (mem : Memory → SProp 𝓤) (run : Routine → Fun 𝓤) where
-  test-all-walks : (𝓣 : Tables 𝓤 H) → Triple 𝓤 (𝓣 .C #bench·checker·test-one) (One 𝓤 H A mem run) → Walks 𝓤 H A all.ended stayed (WpFn 𝓤 H (𝓣 .C) (𝓣 .Λ) code.function) (all.clauses 𝓤 H A mem run)
+  test-all-walks : (𝓣 : Tables 𝓤 H) → Triple 𝓤 (𝓣 .C #one-checker·checker·test-one) (One 𝓤 H A mem run) → Walks 𝓤 H A all.ended stayed (WpFn 𝓤 H (𝓣 .C) (𝓣 .Λ) code.function) (all.clauses 𝓤 H A mem run)
   test-all-walks 𝓣 known = walked 𝓤 H A all.ended stayed (all.clauses 𝓤 H A mem run) (WpFn 𝓤 H (𝓣 .C) (𝓣 .Λ) code.function)
       (λ κs. (slice-vals, (slice-vals, tt))) (λ κs. (shr-slice-tells (named 0) (κs .0) C.the-row, (shr-slice-tells (named 1) (κs .1 .0) u64, tt)))
       (λ κs qs bounds a g are. needs 𝓤 ((length (now (a .1 .0)) ≡ length (now (a .0))) × (length (now (a .0)) ≤ 64)) _ (λ asks.
       walk 𝓤 H A W mem run (κs .0) (κs .1 .0) (qs .0) (qs .1 .0) (a .0) (a .1 .0) (asks .0) (asks .1) (are .0 .0 .1) (are .1 .0 .0 .1) 𝓣 known))
 
 test-all-meets : {M : Type 1} (𝓤 : URA M) (H : Heap 𝓤) (A : Atoms 𝓤) → Given 𝓤 H A → (mem : Memory → SProp 𝓤) (run : Routine → Fun 𝓤) (𝓣 : Tables 𝓤 H)
-    → Triple 𝓤 (𝓣 .C #bench·checker·test-one) (One 𝓤 H A mem run)
+    → Triple 𝓤 (𝓣 .C #one-checker·checker·test-one) (One 𝓤 H A mem run)
     → Meets 𝓤 H A all.signature (WpFn 𝓤 H (𝓣 .C) (𝓣 .Λ) code.function) (all.spec 𝓤 H A mem run)
 test-all-meets 𝓤 H A W mem run 𝓣 known =
     walk-meets 𝓤 H A all.ended stayed W (goes-none-slice 𝓤 H A W 2 (0 ∷ []) tt (plain (λ _. C.the-row)) yes, (goes-none-slice 𝓤 H A W 2 (1 ∷ []) tt (plain (λ _. u64)) yes, tt)) (all.clauses 𝓤 H A mem run)
@@ -254,4 +255,4 @@ test-all-spec 𝓤 H 𝓜 𝓖 𝓡 =
     entered 𝓤 H (tripleOf 𝓤 H (𝓖 .A) all.signature (all.spec 𝓤 H (𝓖 .A) (𝓜 .mem) (𝓡 .run)))
     (tables 𝓤 H 𝓜 𝓡 code.env .C) (tables 𝓤 H 𝓜 𝓡 code.env .Λ) #bench·table·test-all code.function (code.unfolded 𝓤 H 𝓜 𝓡)
     (test-all-meets 𝓤 H (𝓖 .A) (givenOf 𝓤 H 𝓜 𝓖) (𝓜 .mem) (𝓡 .run) (tablesOf 𝓤 H 𝓜 (tables 𝓤 H 𝓜 𝓡 code.env))
-    (cited 𝓤 H (One 𝓤 H (𝓖 .A) (𝓜 .mem) (𝓡 .run)) 𝓜 𝓡 code.env #bench·checker·test-one one-def.routine code.calls-bench·checker·test-one (one-thm.met 𝓤 H 𝓜 𝓖 𝓡)))
+    (cited 𝓤 H (One 𝓤 H (𝓖 .A) (𝓜 .mem) (𝓡 .run)) 𝓜 𝓡 code.env #one-checker·checker·test-one one-def.routine code.calls-one-checker·test-one (one-thm.met 𝓤 H 𝓜 𝓖 𝓡)))

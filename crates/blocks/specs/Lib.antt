@@ -1,0 +1,2 @@
+-- What the contracts on blocks of cycles cite.
+pub mod Blocks

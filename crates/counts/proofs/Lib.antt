@@ -1,0 +1,4 @@
+-- Laws of the counts of marks.
+pub mod Counted
+pub mod Tallies
+pub mod Weights

@@ -1,0 +1,2 @@
+-- What the contracts of the counts of marks cite.
+pub mod Counts

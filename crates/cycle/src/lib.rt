@@ -1,0 +1,10 @@
+// What the steps of all families have in common: reset, the row of marks, and what a step leaves.
+mod marks;
+mod outcome;
+mod reset;
+
+pub use marks::check_row;
+pub use marks::row_of;
+pub use marks::to_bit;
+pub use outcome::Outcome;
+pub use reset::out_of_reset;

@@ -1,0 +1,36 @@
+// A row is the sum of its marks.
+use rules::CLOSED;
+use rules::FAILURE;
+use rules::ILLEGAL_START;
+use rules::OPENED;
+use rules::RESTARTED;
+ghost use mathlib.Core.Path.{_≡_};
+ghost use Prim.Native.Nat.{_≤_};
+ghost use Rattle.bus.specs.Bits.{toBit};
+ghost use Rattle.rules.specs.Rules.{rowOf, checkMarks};
+
+// 1 for true and 0 for false.
+pub fn to_bit(b: bool) -> u32
+    ensures { λ r. ⌜ r ≡ toBit b ⌝ }
+    ensures { λ r. ⌜ r ≤ 1 ⌝ }
+{
+    b as u32
+}
+
+// The row of a cycle with these marks.
+pub fn row_of(failure: bool, illegal: bool, opened: bool, closed: bool, restarted: bool) -> u32
+    ensures { λ r. ⌜ r ≡ rowOf (record { failure = failure; illegal = illegal; opened = opened; closed = closed; restarted = restarted }) ⌝ }
+{
+    FAILURE * to_bit(failure)
+        + ILLEGAL_START * to_bit(illegal)
+        + OPENED * to_bit(opened)
+        + CLOSED * to_bit(closed)
+        + RESTARTED * to_bit(restarted)
+}
+
+// The row of a cycle where a check can fail and one can be opened, and nothing else.
+pub fn check_row(failure: bool, opened: bool) -> u32
+    ensures { λ r. ⌜ r ≡ rowOf (checkMarks failure opened) ⌝ }
+{
+    row_of(failure, false, opened, false, false)
+}

@@ -1,0 +1,3 @@
+-- Laws of the entries of a cycle.
+pub mod LostWord
+pub mod StepEntries

@@ -1,0 +1,2 @@
+-- The entries of a cycle.
+pub mod Steps

@@ -1,0 +1,24 @@
+-- The entries of one cycle, from the open word before it, and what the code that counts and writes them may go by. Assumes nothing.
+use Prim.Native.Nat.{ℕ, _<_}
+use mathlib.Core.Path.{_≡_}
+use mathlib.Core.List.{List, _++_, map}
+use lib.Dec.{T}
+use Rattle.rules.specs.declared.config.Config.{Config}
+use Rattle.rules.specs.declared.frame.Frame.{Frame}
+use Rattle.rules.specs.Config.{Good}
+use Rattle.rules.specs.Step.{stepRow}
+use Rattle.rules.specs.Possible.{possible}
+use Rattle.listed.specs.Lists.{Entry, entry, chosen}
+use Rattle.listed.specs.Starts.{fails, startsIllegally, Placed}
+
+-- the entries of a cycle
+unfoldable pub stepEntries : Config → ℕ → Frame → ℕ → List Entry
+stepEntries c w f t = map (entry t 1) (chosen t (fails c w f t)) ++ map (entry t 2) (chosen t (startsIllegally c w f t))
+
+-- a cycle of a run that was not refused, with its row
+pub record Ready (c : Config) (w : ℕ) (f : Frame) (row t : ℕ) : Type 0 where
+  pub good : Good c
+  pub possible-word : T (possible c w)
+  pub placed : Placed c w t
+  pub row-is : row ≡ stepRow c w f
+  pub low : t < 65536

@@ -1,0 +1,101 @@
+// The family of a kind decides which step and which run there is. Neither is offered to the viewer.
+use cycle::Outcome;
+use rules::Config;
+use rules::Frame;
+use sequence::sequence_cycle;
+use sequence_runs::fill_sequence;
+use sequence_runs::seek_sequence;
+use time::fill_time;
+use time::seek_time;
+use time::time_cycle;
+use trace::Reached;
+use trace::Stretch;
+use transition::all_descend;
+use transition::transition_cycle;
+use transition_runs::fill_descending;
+use transition_runs::fill_transition;
+use transition_runs::seek_descending;
+use transition_runs::seek_transition;
+ghost use mathlib.Core.Bool.{true, false};
+ghost use mathlib.Core.Path.{_≡_};
+ghost use lib.Dec.{T};
+ghost use Rattle.rules.specs.Config.{Good};
+ghost use Rattle.rules.specs.Possible.{possible};
+ghost use Rattle.rules.specs.Step.{Steps};
+ghost use Rattle.trace.specs.Stretches.{Runnable, Ran};
+
+// One step.
+pub fn step(c: Config, word: u64, frame: Frame) -> Outcome
+    requires { ⌜ (Good c) × (T (possible c word)) ⌝ }
+    ensures { λ r. ⌜ Steps c word frame (r .row) (r .word) ⌝ }
+{
+    let kind = c.kind;
+    match kind {
+        0..=2 => sequence_cycle(c, word, frame),
+        3..=5 => time_cycle(c, word, frame),
+        6 => transition_cycle(c, word, frame),
+        7..=255 => Outcome { row: 0, word: 0 },
+    }
+}
+
+// Runs a stretch of a trace into lent rows and words. The kind is looked at once for the stretch, and each family has loops of its own, in which the compiler
+// can keep what depends on the configuration alone. The loop of a stretch that does not stop has no test for it.
+pub fn run(c: Config, trace: &[u32], rows: &mut [u32], words: &mut [u64], s: Stretch) -> Reached
+    requires { ⌜ Runnable c (now trace) (now rows) (now words) s ⌝ }
+    ensures { λ r. ⌜ Ran c (now (trace .entry)) (now (rows .entry)) (now (words .entry)) s (now (rows .exit)) (now (words .exit)) r ⌝ }
+{
+    if s.stops {
+        seek(c, trace, rows, words, s)
+    } else {
+        fill(c, trace, rows, words, s)
+    }
+}
+
+// Runs a stretch to its end.
+fn fill(c: Config, trace: &[u32], rows: &mut [u32], words: &mut [u64], s: Stretch) -> Reached
+    requires { ⌜ (Runnable c (now trace) (now rows) (now words) s) × (s .stops ≡ false) ⌝ }
+    ensures { λ r. ⌜ Ran c (now (trace .entry)) (now (rows .entry)) (now (words .entry)) s (now (rows .exit)) (now (words .exit)) r ⌝ }
+{
+    let kind = c.kind;
+    match kind {
+        0..=2 => fill_sequence(c, trace, rows, words, s),
+        3..=5 => fill_time(c, trace, rows, words, s),
+        6 => {
+            if all_descend(c) {
+                fill_descending(c, trace, rows, words, s)
+            } else {
+                fill_transition(c, trace, rows, words, s)
+            }
+        }
+        7..=255 => nowhere(s),
+    }
+}
+
+// Runs a stretch up to the first entry where the word is the kept one.
+fn seek(c: Config, trace: &[u32], rows: &mut [u32], words: &mut [u64], s: Stretch) -> Reached
+    requires { ⌜ (Runnable c (now trace) (now rows) (now words) s) × (s .stops ≡ true) ⌝ }
+    ensures { λ r. ⌜ Ran c (now (trace .entry)) (now (rows .entry)) (now (words .entry)) s (now (rows .exit)) (now (words .exit)) r ⌝ }
+{
+    let kind = c.kind;
+    match kind {
+        0..=2 => seek_sequence(c, trace, rows, words, s),
+        3..=5 => seek_time(c, trace, rows, words, s),
+        6 => {
+            if all_descend(c) {
+                seek_descending(c, trace, rows, words, s)
+            } else {
+                seek_transition(c, trace, rows, words, s)
+            }
+        }
+        7..=255 => nowhere(s),
+    }
+}
+
+// Where a stretch starts: no run of a kind that was refused.
+fn nowhere(s: Stretch) -> Reached {
+    Reached {
+        at: s.at,
+        word: s.word,
+        kept: s.kept,
+    }
+}

@@ -1,4 +1,0 @@
--- What the contracts of the C host's calls cite.
-pub mod Bytes
-pub mod Step
-pub mod Calls

@@ -1,0 +1,2 @@
+-- What the contracts of the answers in lent slices cite.
+pub mod Answers

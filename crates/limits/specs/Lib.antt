@@ -1,0 +1,2 @@
+-- What the claim on the limits says.
+pub mod Limits

@@ -1,0 +1,139 @@
+-- The starts that the rules give for a cycle are those found from the open word before it, and no check in such a word is older than the trace.
+--
+-- The rules take an accepted check from s that is pending in t, and then look at the frame of t alone. So it is enough to know what the word before t
+-- says of such a check: an attempt is tested when the bit of its age is set (`pending-bit`), a time check is pending when the count gives its start
+-- (`pending-count`), and a transition check is from the cycle before, whose value the word has stored (`word-stored`). The rest is the order of the
+-- tests: the rules ask for an accepted start and then for reset, and what is found from the word asks for reset first. An illegal start is of kind 5,
+-- which is a time kind. Assumes nothing.
+use Prim.Native.Nat.{ℕ, zero, suc, _+_, _-_, _<_, _≤_}
+use mathlib.Core.Path.{_≡_, refl, sym, ap, _∙_}
+use mathlib.Core.Bool.{Bool, true, false, not, _&&_, _||_, and-true, and-false}
+use mathlib.Core.Logic.{⊎-elim}
+use native.Mathlib.Nat.{eq-or-lt-of-le}
+use native.Mathlib.Omega.{arith}
+use lib.Dec.{eqb}
+use borrow.Author.Tests.{eq-eqb, ne-eqb}
+use Rattle.bus.specs.Bits.{bit}
+use Rattle.rules.specs.declared.config.Config.{Config}
+use Rattle.rules.specs.Config.{Family, family, Good}
+use Rattle.rules.specs.Config.Family.{sequence, time, transition, none}
+use Rattle.rules.specs.Frame.{Trace, up, P, R}
+use Rattle.rules.specs.Checks.{accepted}
+use Rattle.rules.specs.Sequence.{sequenceChecks}
+use Rattle.rules.specs.Time.{startSeen, testSeen, restarts, timeChecks}
+use Rattle.rules.specs.Transition.{transitionChecks, stored}
+use Rattle.rules.specs.Rules.{wordBefore}
+use Rattle.rules.specs.Step.{start, pends, restart, stepMarksOf}
+use Rattle.rules.proofs.Good.{family-time, time-config, not-none}
+use Rattle.rules.proofs.SequenceRules.{pending-bit, bit-young}
+use Rattle.rules.proofs.TimeRules.{pending-count, count-young}
+use Rattle.rules.proofs.TransitionRules.{value-fails, word-stored}
+use Rattle.listed.specs.Lists.{checksOf, failed, illegal}
+use Rattle.listed.specs.Starts.{failedOf, illegalOf, fails, startsIllegally, Placed}
+
+-- ---- tests: a for accepted, u for out of reset, p for pending
+
+reset-first : (a u p x y : Bool) → (a && (u && p && x && y)) ≡ (u && (a && p && x && y))
+reset-first true true p x y = refl
+reset-first true false p x y = refl
+reset-first false u p x y = sym (and-false u)
+
+-- e for the start that the count gives, x for test 0, k for kind 4, b for start 1
+restart-tests : (u e p x k b : Bool) → (u && (e && p && x && not (k && (u && b)))) ≡ (u && (e && (p && x && not (k && b && p))))
+restart-tests true true true x k b = ap (λ (z : Bool). x && not z) (sym (and-true (k && b)))
+restart-tests true true false x k b = refl
+restart-tests true false p x k b = refl
+restart-tests false e p x k b = refl
+
+-- k for kind 5
+illegal-tests : (u e p k b : Bool) → (k && (u && b) && (e && p)) ≡ (u && (e && (k && b && p)))
+illegal-tests true true p k b = refl
+illegal-tests true false p k b = and-false (k && b)
+illegal-tests false e p k b = ap (λ (z : Bool). z && (e && p)) (and-false k)
+
+-- kind 5 is a time kind
+not-five : (c : Config) → (family (c .kind) ≡ time → ⊥) → eqb (c .kind) 5 ≡ false
+not-five c h = ne-eqb (c .kind) 5 (λ e. h (family-time (c .kind) (omega arith) (omega arith)))
+
+module _ (c : Config) (tr : Trace) where
+  -- the check from s fails in t by the rules of a family where it is found to, and so for an illegal start
+  abbrev Failing : Family → ℕ → ℕ → Type 0
+  Failing k t s =
+      (accepted (checksOf k c tr) s && checksOf k c tr .violated s t) ≡ (up (tr t) && failedOf c (wordBefore c tr t) (tr t) t k s)
+
+  abbrev Illegal : Family → ℕ → ℕ → Type 0
+  Illegal k t s =
+      (eqb (c .kind) 5 && checksOf k c tr .starts t && (accepted (checksOf k c tr) s && checksOf k c tr .pending s t))
+      ≡ (up (tr t) && illegalOf c (wordBefore c tr t) (tr t) t k s)
+
+  sequence-failed : family (c .kind) ≡ sequence → (t s : ℕ) → s < t → Failing sequence t s
+  unfolding checksOf sequenceChecks failedOf
+  sequence-failed f t s l =
+      reset-first (accepted (sequenceChecks c tr) s) (up (tr t)) (sequenceChecks c tr .pending s t) (not (bit (P c (tr t)) (c .n - 1 - (t - s))))
+      (not (eqb (c .kind) 0) || eqb (t - s) (c .n - 1))
+      ∙ rw (pending-bit c tr f t s l)
+
+  module _ (n : 1 ≤ c .n) (f : family (c .kind) ≡ time) (t s : ℕ) where
+    time-failed : Failing time t s
+    unfolding checksOf timeChecks startSeen testSeen restarts failedOf stepMarksOf start pends restart
+    time-failed =
+        let w = wordBefore c tr t in
+        let test = not (testSeen c tr t) in
+        reset-first (accepted (timeChecks c tr) s) (up (tr t)) (timeChecks c tr .pending s t) test (not (restarts c tr t))
+        ∙ rw (pending-count c tr n f t s)
+        (restart-tests (up (tr t)) (eqb (suc (s + c .n)) (w + t)) (pends c w (tr t)) test (eqb (c .kind) 4) (start c w (tr t)))
+
+    time-illegal : Illegal time t s
+    unfolding checksOf timeChecks startSeen illegalOf stepMarksOf start pends
+    time-illegal =
+        let w = wordBefore c tr t in
+        rw (pending-count c tr n f t s)
+        (illegal-tests (up (tr t)) (eqb (suc (s + c .n)) (w + t)) (pends c w (tr t)) (eqb (c .kind) 5) (start c w (tr t)))
+
+  -- a transition check in the next cycle, and in any
+  next-failed : family (c .kind) ≡ transition → (s : ℕ) → Failing transition (suc s) s
+  unfolding checksOf transitionChecks failedOf stepMarksOf pends wordBefore stored
+  next-failed f s =
+      let here = reset-first (accepted (transitionChecks c tr) s) (up (tr (suc s))) true (not (eqb (P c (tr (suc s))) (R c (tr s)))) true in
+      rw (eq-eqb (suc s) (suc s) refl, word-stored c tr f s, ← value-fails) (simp and-true (simp and-true at here))
+
+  transition-failed : family (c .kind) ≡ transition → (t s : ℕ) → s < t → Failing transition t s
+  unfolding checksOf transitionChecks failedOf
+  transition-failed f t s l =
+      ⊎-elim (λ (e : suc s ≡ t). rw (← e) (next-failed f s))
+      (λ (m : suc s < t). rw (ne-eqb t (suc s) (omega arith), ne-eqb (suc s) t (omega arith)) (simp and-false)) (eq-or-lt-of-le l)
+
+-- ---- all kinds
+
+pub failed-starts : (c : Config) → Good c → (tr : Trace) (t s : ℕ) → s < t → failed c tr t s ≡ fails c (wordBefore c tr t) (tr t) t s
+unfolding failed fails
+failed-starts c good tr t s l = by (family (c .kind)) refl
+  where
+    by : (k : Family) → family (c .kind) ≡ k → Failing c tr k t s
+    by sequence f = sequence-failed c tr f t s l
+    by time f = time-failed c tr (time-config c good f .low) f t s
+    by transition f = transition-failed c tr f t s l
+    by none f = absurd (not-none c good f)
+
+pub illegal-starts : (c : Config) → Good c → (tr : Trace) (t s : ℕ) → s < t
+    → illegal c tr t s ≡ startsIllegally c (wordBefore c tr t) (tr t) t s
+unfolding illegal startsIllegally illegalOf
+illegal-starts c good tr t s l = by (family (c .kind)) refl
+  where
+    by : (k : Family) → family (c .kind) ≡ k → Illegal c tr k t s
+    by sequence f = rw (not-five c (λ e. let z : _≡_ {A = ℕ} 0 1 = cc in omega arith)) (sym (and-false (up (tr t))))
+    by time f = time-illegal c tr (time-config c good f .low) f t s
+    by transition f = rw (not-five c (λ e. let z : _≡_ {A = ℕ} 0 1 = cc in omega arith)) (sym (and-false (up (tr t))))
+    by none f = absurd (not-none c good f)
+
+pub before-placed : (c : Config) → Good c → (tr : Trace) (t : ℕ) → Placed c (wordBefore c tr t) t
+unfolding wordBefore
+before-placed c good tr t = record {
+  attempts = λ f. bit-young c tr f t;
+  window = λ f. count-young c tr (time-config c good f .low) f t;
+  stored = λ f. later t;
+}
+  where
+    later : (u : ℕ) → 0 < wordBefore c tr u → 0 < u
+    later zero l = l
+    later (suc u) l = omega arith

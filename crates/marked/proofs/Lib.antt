@@ -1,0 +1,2 @@
+-- Laws of the marked rows of a block.
+pub mod Places

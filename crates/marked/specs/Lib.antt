@@ -1,0 +1,2 @@
+-- The marked rows of a block.
+pub mod Picks

@@ -1,0 +1,3 @@
+-- Laws of the refusals of lengths and of one checker.
+pub mod Lengths
+pub mod Tests

@@ -1,0 +1,2 @@
+-- What the contracts for one checker of a table cite.
+pub mod One

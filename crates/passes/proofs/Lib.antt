@@ -1,0 +1,2 @@
+-- Laws of a pass over a whole trace.
+pub mod Whole

@@ -1,0 +1,2 @@
+-- The entries of a lent trace.
+pub mod Listed

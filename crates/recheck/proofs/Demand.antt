@@ -1,0 +1,155 @@
+-- Demand 3, and what the full check's loop gives. The words of the rules follow a trace's frames by the step, so the laws of runs apply to them: the
+-- words that the loops make are those of the rules, and what a recheck writes makes the old trace's true record that of the edited one. The changes over
+-- all rows are those over the rows written, since the others are as they were. Assumes nothing.
+use Prim.Native.Nat.{ℕ, zero, suc, _+_, _/_, _≤_, zero-le}
+use mathlib.Core.Path.{_≡_, refl, sym, ap, ap₂, _∙_}
+use mathlib.Core.Bool.{true, false}
+use mathlib.Core.List.{List}
+use mathlib.Core.Logic.{⊎-elim}
+use native.Mathlib.Nat.{le-refl}
+use native.Mathlib.Omega.{arith}
+use borrow.Author.Tests.{lt-ltb, le-ltb, ltb-true, ltb-false, le-leb, eq-eqb}
+use lib.Dec.{T, ltb}
+use lib.IntN.{ℤ, subℕ, pos, negsuc}
+use lib.ListN.{length}
+use Rattle.bus.proofs.Tests.{is-true, either}
+use Rattle.rules.specs.declared.config.Config.{Config}
+use Rattle.rules.specs.Config.{configRefusal, Good}
+use Rattle.rules.specs.Frame.{Trace}
+use Rattle.rules.specs.Rules.{wordBefore}
+use Rattle.rules.specs.Step.{stepRow, stepWord}
+use Rattle.rules.specs.Possible.{possible}
+use Rattle.rules.proofs.Claims.{step-is-rules}
+use Rattle.rules.proofs.Reached.{before-possible}
+use Rattle.trace.specs.Traces.{frames, frameAt, traceFits}
+use Rattle.trace.specs.Runs.{wordAt, keptAt, Written}
+use Rattle.counts.specs.Counts.{marksIn, change}
+use Rattle.record.specs.Records.{TrueRecord, recordFits}
+use Rattle.recheck.specs.Rechecks.{recheckRefusal, ownWord, ownRow, Rechecked, Edited, Demanded}
+use Rattle.trace.proofs.Runs.{run-steps, Follows, same-words, Edit, true-ends, true-entries}
+use Rattle.counts.proofs.Counted.{marks-same, marks-split}
+
+-- ---- the words of the rules are a run
+
+rules-follow : (c : Config) → Good c → (tr : Trace) → Follows (stepWord c) tr 0 (wordBefore c tr)
+unfolding wordBefore
+rules-follow c good tr t _ = step-is-rules c good tr t .word-is
+
+pub run-is-rules : (c : Config) → Good c → (tr : Trace) (t : ℕ) → wordAt (stepWord c) tr 0 0 t ≡ wordBefore c tr t
+unfolding wordAt wordBefore
+run-is-rules c good tr t =
+    same-words (stepWord c) tr tr (wordAt (stepWord c) tr 0 0) (wordBefore c tr) 0 t (run-steps (stepWord c) tr 0 0) (rules-follow c good tr)
+    (λ s _ _. refl) refl t zero-le (le-refl t)
+
+-- What the full check's loop writes is the trace's true record.
+pub check-done : (c : Config) → Good c → (trace rows words rows′ words′ : List ℕ) → length rows ≡ frames trace → length words ≡ frames trace
+    → Written (λ t. stepRow c (wordAt (stepWord c) (frameAt trace) 0 0 t) (frameAt trace t)) 0 (frames trace) rows rows′
+    → Written (λ t. wordAt (stepWord c) (frameAt trace) 0 0 (suc t)) 0 (frames trace) words words′ → TrueRecord c trace rows′ words′
+unfolding wordBefore
+check-done c good trace rows words rows′ words′ p q r w =
+    record {
+      rows-length = r .same-length ∙ p;
+      words-length = w .same-length ∙ q;
+      rows-are = λ t h. r .within t zero-le h ∙ rw (run-is-rules c good (frameAt trace) t) (sym (step-is-rules c good (frameAt trace) t .row-is));
+      words-are = λ t h. w .within t zero-le h ∙ run-is-rules c good (frameAt trace) (suc t);
+    }
+
+-- ---- changes
+
+pub sub-same : (x y k : ℕ) → subℕ (x + k) (y + k) ≡ subℕ x y
+sub-same x y k = ⊎-elim less not-less (either (ltb x y))
+  where
+    less : ltb x y ≡ true → subℕ (x + k) (y + k) ≡ subℕ x y
+    less e = rw (e, lt-ltb (x + k) (y + k) (omega (arith, ltb-true x y e))) (ap negsuc (omega (arith, ltb-true x y e)))
+
+    not-less : ltb x y ≡ false → subℕ (x + k) (y + k) ≡ subℕ x y
+    not-less e = rw (e, le-ltb (x + k) (y + k) (omega (arith, ltb-false x y e))) (ap pos (omega (arith, ltb-false x y e)))
+
+-- The marks of the rows before a and from e on are in both counts over all rows.
+pub changes-same : (f : ℕ → ℕ) (a e n i : ℕ) (rows rows′ : List ℕ) → a ≤ e → e ≤ n → Written f a e rows rows′
+    → change rows′ rows i a e ≡ change rows′ rows i 0 n
+unfolding change
+changes-same f a e n i rows rows′ low high w = sym (ap₂ subℕ new (all rows) ∙ sub-same (marksIn rows′ i a e) (marksIn rows i a e) (others rows))
+  where
+    others : List ℕ → ℕ
+    others l = marksIn l i 0 a + marksIn l i e n
+
+    all : (l : List ℕ) → marksIn l i 0 n ≡ marksIn l i a e + others l
+    all l = omega (arith, marks-split l i 0 a n zero-le (omega arith), marks-split l i a e n low high)
+
+    new : marksIn rows′ i 0 n ≡ marksIn rows′ i a e + others rows
+    new =
+        all rows′
+        ∙ ap₂ (λ (x y : ℕ). marksIn rows′ i a e + (x + y)) (marks-same rows′ rows i 0 a (λ t _ h. w .below t h))
+        (marks-same rows′ rows i e n (λ t h _. w .beyond t h))
+
+-- ---- demand 3
+
+same-frames : {old trace : List ℕ} {a b : ℕ} → Edited old trace a b → frames old ≡ frames trace
+unfolding frames
+same-frames edited = ap (λ (n : ℕ). n / 4) (edited .same-length)
+
+-- the words kept are those before each cycle of the old trace
+kept-words : {c : Config} {old trace rows words : List ℕ} {a b : ℕ} → Edited old trace a b → TrueRecord c old rows words → (t : ℕ) → t ≤ frames trace
+    → keptAt words t ≡ wordBefore c (frameAt old) t
+unfolding keptAt wordBefore
+kept-words edited was zero h = refl
+kept-words edited was (suc t) h = was .words-are t (omega (arith, same-frames edited))
+
+pub demand-accepted : (c : Config) → Good c → (trace rows words : List ℕ) (a b : ℕ) → T (traceFits trace) → a ≤ b → b ≤ frames trace → (old : List ℕ)
+    → Edited old trace a b → TrueRecord c old rows words → recheckRefusal c trace rows words a b ≡ 0
+unfolding recheckRefusal recordFits
+demand-accepted c good trace rows words a b fits low high old edited was =
+    simp (
+      eq-eqb (configRefusal c) 0 good,
+      is-true (traceFits trace) fits,
+      eq-eqb (length rows) (frames trace) (was .rows-length ∙ same-frames edited),
+      eq-eqb (length words) (frames trace) (was .words-length ∙ same-frames edited),
+      le-leb a b low,
+      le-leb b (frames trace) high,
+      kept-words edited was a (omega arith),
+      is-true (possible c (wordBefore c (frameAt old) a)) (before-possible c good (frameAt old) a),
+    )
+
+module _
+    (c : Config) (good : Good c) (trace rows words : List ℕ) (a b : ℕ) (low : a ≤ b) (high : b ≤ frames trace) (old : List ℕ)
+    (edited : Edited old trace a b) (was : TrueRecord c old rows words)
+  where
+    -- the edit, for the step of this configuration
+    edit : Edit (stepWord c) (frameAt trace) (frameAt old) (wordBefore c (frameAt trace)) (wordBefore c (frameAt old)) (keptAt words) a b (frames trace)
+    unfolding wordBefore
+    edit = record {
+      low = low;
+      high = high;
+      below = edited .before;
+      behind = edited .behind;
+      start = refl;
+      follows = rules-follow c good (frameAt trace);
+      follows-old = rules-follow c good (frameAt old);
+      keeps = kept-words edited was;
+    }
+
+    pub demand-met : (rows′ words′ : List ℕ) (e : ℕ) (changes : List ℤ) → Rechecked c trace rows words a b rows′ words′ e changes
+        → Demanded c old trace rows b rows′ words′ 0 e changes
+    unfolding ownWord ownRow
+    demand-met rows′ words′ e changes r = record {
+      not-refused = refl;
+      record-is =
+          record {
+            rows-length = r .rows-are .same-length ∙ was .rows-length ∙ same-frames edited;
+            words-length = r .words-are .same-length ∙ was .words-length ∙ same-frames edited;
+            rows-are =
+                λ t h.
+                true-entries edit (stepRow c) (ownRow c trace words a) e rows rows′ (r .ends)
+                (λ s l. was .rows-are s (omega (arith, same-frames edited)) ∙ step-is-rules c good (frameAt old) s .row-is) (λ s _. refl) (r .rows-are) t h
+                ∙ sym (step-is-rules c good (frameAt trace) t .row-is);
+            words-are =
+                λ t h.
+                true-entries edit (stepWord c) (λ (s : ℕ). ownWord c trace words a (suc s)) e words words′ (r .ends)
+                (λ s l. was .words-are s (omega (arith, same-frames edited)) ∙ step-is-rules c good (frameAt old) s .word-is)
+                (run-steps (stepWord c) (frameAt trace) a (keptAt words a)) (r .words-are) t h
+                ∙ sym (step-is-rules c good (frameAt trace) t .word-is);
+          };
+      ends = true-ends edit e (r .ends);
+      changes-are = r .changes-all;
+    }

@@ -1,0 +1,5 @@
+-- Why the recheck leaves what demand 3 asks for.
+pub mod Signed
+pub mod Going
+pub mod Demand
+pub mod Answers

@@ -1,0 +1,2 @@
+-- What the contract of the recheck cites.
+pub mod Rechecks

@@ -1,0 +1,12 @@
+// The marks of a row: how many there are, and what each weighs in the sum.
+pub const MARKS: usize = 5;
+
+pub const FAILURE: u32 = 1;
+
+pub const ILLEGAL_START: u32 = 2;
+
+pub const OPENED: u32 = 4;
+
+pub const CLOSED: u32 = 8;
+
+pub const RESTARTED: u32 = 16;

@@ -1,0 +1,87 @@
+// The calls on a whole trace, for the C host.
+use super::numbered::config_of;
+use lent_answers::recheck_into;
+use lent_answers::totals_into;
+use packed::packed_failures;
+use record::full_check;
+ghost use Prim.Native.Nat.{_/_, _%_};
+ghost use Rattle.record.specs.Records.{CheckAnswer};
+ghost use Rattle.failures.specs.Answers.{ListAnswer};
+ghost use Rattle.lent_answers.specs.Answers.{HostRecheck, HostTotals};
+ghost use Rattle.selvedgeon.specs.Numbered.{configOf};
+
+// The full check: fills N rows and N open words. Answers the refusal number or 0; refused: both are as they were. Refusals 1 to 5.
+#[no_mangle]
+pub extern "C" fn selvedgeon_check(
+    kind: u8,
+    n: u32,
+    p_left: u8,
+    p_right: u8,
+    q_left: u8,
+    q_right: u8,
+    r_left: u8,
+    r_right: u8,
+    trace: &[u32],
+    rows: &mut [u32],
+    words: &mut [u64],
+) -> u32
+    ensures { λ answer. ⌜ CheckAnswer (configOf kind n «p_left» «p_right» «q_left» «q_right» «r_left» «r_right») (now (trace .entry)) (now (rows .entry)) (now (words .entry)) (now (rows .exit)) (now (words .exit)) answer ⌝ }
+{
+    let config = config_of(kind, n, p_left, p_right, q_left, q_right, r_left, r_right);
+    full_check(config, trace, rows, words)
+}
+
+// The recheck after an edit of cycles a to b-1. Answers the refusal number or 0; not refused, the lent numbers become the cycle where it ended and the change
+// of each mark. Refusals 1 to 7, 5 also where not one number more than there are marks is lent; refused: all is as it was.
+#[no_mangle]
+pub extern "C" fn selvedgeon_recheck(
+    kind: u8,
+    n: u32,
+    p_left: u8,
+    p_right: u8,
+    q_left: u8,
+    q_right: u8,
+    r_left: u8,
+    r_right: u8,
+    trace: &[u32],
+    rows: &mut [u32],
+    words: &mut [u64],
+    a: u64,
+    b: u64,
+    answer: &mut [i32],
+) -> u32
+    ensures { λ refusal. ⌜ HostRecheck (configOf kind n «p_left» «p_right» «q_left» «q_right» «r_left» «r_right») (now (trace .entry)) (now (rows .entry)) (now (words .entry)) a b (now (answer .entry)) (now (rows .exit)) (now (words .exit)) (now (answer .exit)) refusal ⌝ }
+{
+    let config = config_of(kind, n, p_left, p_right, q_left, q_right, r_left, r_right);
+    recheck_into(config, trace, rows, words, a, b, answer)
+}
+
+// How many rows have each mark, in as many lent numbers as there are marks. Answers the refusal number or 0: 5 for more than 65,536 rows, or where another
+// number of numbers is lent; refused: they are as they were.
+#[no_mangle]
+pub extern "C" fn selvedgeon_totals(rows: &[u32], counts: &mut [u32]) -> u32
+    ensures { λ answer. ⌜ HostTotals (now (rows .entry)) (now (counts .entry)) (now (counts .exit)) answer ⌝ }
+{
+    totals_into(rows, counts)
+}
+
+// The failure list, three words for each entry. Answers 2^32 times the refusal and the number of entries. Refusals 1 to 4 and 8; refused: the list is as it
+// was.
+#[no_mangle]
+pub extern "C" fn selvedgeon_failures(
+    kind: u8,
+    n: u32,
+    p_left: u8,
+    p_right: u8,
+    q_left: u8,
+    q_right: u8,
+    r_left: u8,
+    r_right: u8,
+    trace: &[u32],
+    list: &mut [u32],
+) -> u64
+    ensures { λ answer. ⌜ ListAnswer (configOf kind n «p_left» «p_right» «q_left» «q_right» «r_left» «r_right») (now (trace .entry)) (now (list .entry)) (now (list .exit)) (answer / 4294967296) (answer % 4294967296) ⌝ }
+{
+    let config = config_of(kind, n, p_left, p_right, q_left, q_right, r_left, r_right);
+    packed_failures(config, trace, list)
+}

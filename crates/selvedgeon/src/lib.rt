@@ -1,0 +1,15 @@
+// What the C host calls: the proved calls, on numbers and lent slices.
+mod calls;
+mod numbered;
+mod numbers;
+mod step;
+mod table;
+
+pub use calls::selvedgeon_check;
+pub use calls::selvedgeon_failures;
+pub use calls::selvedgeon_recheck;
+pub use calls::selvedgeon_totals;
+pub use numbers::selvedgeon_first_failure;
+pub use numbers::selvedgeon_open_count;
+pub use step::selvedgeon_step;
+pub use table::selvedgeon_bench;

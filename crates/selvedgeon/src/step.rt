@@ -1,0 +1,33 @@
+// One step for the C host.
+use super::numbered::config_of;
+use byte_step::step_bytes;
+use rules::Frame;
+ghost use mathlib.Core.List.{[], _∷_};
+ghost use Rattle.byte_step.specs.Step.{ByteStep};
+ghost use Rattle.selvedgeon.specs.Numbered.{configOf};
+
+// One step of the checker on the frame of the four samples. The open word is in the eight lent bytes, least significant first: the next word is written
+// there. Answers 256 times the refusal number plus the row. Refusals 1, 2 and 3, then 5 for a slice that is not 8 bytes long, then 7; refused: the bytes
+// are as they were.
+#[no_mangle]
+pub extern "C" fn selvedgeon_step(
+    kind: u8,
+    n: u32,
+    p_left: u8,
+    p_right: u8,
+    q_left: u8,
+    q_right: u8,
+    r_left: u8,
+    r_right: u8,
+    reset: u32,
+    p: u32,
+    q: u32,
+    r: u32,
+    word: &mut [u8],
+) -> u32
+    ensures { λ answer. ⌜ ByteStep (configOf kind n «p_left» «p_right» «q_left» «q_right» «r_left» «r_right») (record { samples = reset ∷ p ∷ q ∷ r ∷ [] }) (now (word .entry)) (now (word .exit)) answer ⌝ }
+{
+    let config = config_of(kind, n, p_left, p_right, q_left, q_right, r_left, r_right);
+    let samples = [reset, p, q, r];
+    step_bytes(config, Frame { samples }, word)
+}

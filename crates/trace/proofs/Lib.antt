@@ -1,0 +1,6 @@
+-- Laws of traces and of runs over them.
+pub mod Runs
+pub mod Frames
+pub mod Written
+pub mod Running
+pub mod Followed

@@ -1,0 +1,2 @@
+-- What the contracts of the steps of kind 6 cite, besides the rules.
+pub mod Ports

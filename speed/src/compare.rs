@@ -1,0 +1,129 @@
+//! Whether the proved library answers every call that is timed as ordinary Rust does.
+use crate::engine::{Answer, Engine, Plain, Record};
+use crate::inputs::{cut, kept_rows, list_trace, Call, Input, BENCH, CYCLES, LIST};
+use crate::plain::{Config, Range, FAILURE, ILLEGAL, MOST_PIPE, OPENED, RESTARTED};
+use crate::proved::Library;
+
+pub fn compare(library: &Library, input: &Input, trace: &[u32]) -> Result<(), String> {
+    if let Call::Bench = input.call {
+        return compare_bench(library, &input.checkers, trace);
+    }
+    for (k, config) in input.checkers.iter().enumerate() {
+        let own = cut(trace, k, CYCLES);
+        let compared = match input.call {
+            Call::Recheck => compare_recheck(library, config, own, &kept_rows(config, trace, k)),
+            Call::List { one_in } => compare_list(library, config, &list_trace(config, one_in)),
+            _ => compare_check(library, config, own).map(|_| ()),
+        };
+        compared.map_err(|difference| format!("checker {k}, {difference}"))?;
+    }
+    Ok(())
+}
+
+/// The record of the full check, on which both sides agree.
+fn compare_check(library: &Library, config: &Config, trace: &[u32]) -> Result<Record, String> {
+    let [mut proved, mut plain] = [Record::new(CYCLES), Record::new(CYCLES)];
+    let answers = [library.full_check(config, trace, &mut proved), Plain.full_check(config, trace, &mut plain)];
+    equal(answers, [&proved, &plain])?;
+    Ok(plain)
+}
+
+fn compare_bench(library: &Library, checkers: &[Config], trace: &[u32]) -> Result<(), String> {
+    let [mut proved, mut plain] = [Record::new(BENCH), Record::new(BENCH)];
+    for t in 0..CYCLES {
+        let frames = cut(trace, t, BENCH);
+        let answers = [library.bench_step(checkers, frames, &mut proved), Plain.bench_step(checkers, frames, &mut plain)];
+        equal(answers, [&proved, &plain]).map_err(|difference| format!("step {t}, {difference}"))?;
+    }
+    Ok(())
+}
+
+/// Whether both calls were done and left the same entries; else what differs, the proved side first.
+fn equal(answers: [Answer; 2], records: [&Record; 2]) -> Result<(), String> {
+    if answers != [Ok(()); 2] {
+        return Err(format!("refused: {answers:?}"));
+    }
+    for i in 0..records[0].rows.len() {
+        let [proved, plain] = records.map(|record| (record.rows[i], record.words[i]));
+        if proved != plain {
+            return Err(format!("entry {i}: (row, word) is {proved:?} and {plain:?}"));
+        }
+    }
+    Ok(())
+}
+
+/// A recheck of the false record has to run over all cycles and to leave what the full check leaves.
+fn compare_recheck(library: &Library, config: &Config, trace: &[u32], kept: &[u32]) -> Result<(), String> {
+    let full = compare_check(library, config, trace)?;
+    let mut record = Record::new(CYCLES);
+    record.make_false(kept);
+    let answer = library.recheck(config, trace, &mut record, 0..1);
+    equal([answer.map(|_| ()), Ok(())], [&record, &full]).map_err(|difference| format!("recheck, {difference}"))?;
+
+    let mut expected = [CYCLES as i32, 0, 0, 0, 0, 0];
+    for (mark, change) in expected[1..].iter_mut().enumerate() {
+        let count = |rows: &[u32]| rows.iter().filter(|row| *row >> mark & 1 != 0).count() as i32;
+        *change = count(&full.rows) - count(kept);
+    }
+    if answer != Ok(expected) {
+        return Err(format!("recheck: (stop, changes) is {answer:?} and {expected:?}"));
+    }
+    Ok(())
+}
+
+fn compare_list(library: &Library, config: &Config, trace: &[u32]) -> Result<(), String> {
+    let record = compare_check(library, config, trace)?;
+    let mut list = vec![0; LIST];
+    let entries = library.failures(config, trace, &mut list).map_err(|refusal| format!("refused: {refusal}"))?;
+    let expected = failures(config, trace, &record);
+    if list[..3 * entries] != *expected.as_flattened() {
+        return Err(format!("the list of {entries} entries is not the one of {} that is due", expected.len()));
+    }
+    Ok(())
+}
+
+/// The failure list of a record that is true for the trace: cycle, mark and start of each entry.
+fn failures(config: &Config, trace: &[u32], record: &Record) -> Vec<[u32; 3]> {
+    let mut list = Vec::new();
+    let (mut opened, mut word) = (0, 0);
+    for (t, &row) in record.rows.iter().enumerate() {
+        let cycle = t as u32;
+        if row & FAILURE != 0 {
+            let starts = match config.kind {
+                0..=2 => failed_attempts(config, cycle, word, trace[4 * t + 1]),
+                3..=5 => vec![opened],
+                _ => vec![cycle - 1],
+            };
+            list.extend(starts.into_iter().map(|start| [cycle, FAILURE, start]));
+        }
+        if row & ILLEGAL != 0 {
+            list.push([cycle, ILLEGAL, opened]);
+        }
+        if row & (OPENED | RESTARTED) != 0 {
+            opened = cycle;
+        }
+        word = record.words[t];
+    }
+    list
+}
+
+/// Kinds 0 to 2: the starts of the attempts open before the cycle that miss their event in it, the oldest first.
+fn failed_attempts(config: &Config, cycle: u32, word: u64, wires: u32) -> Vec<u32> {
+    let last = config.n - 1;
+    let first_tested = if config.kind == MOST_PIPE { last } else { 1 };
+    (first_tested..=last)
+        .rev()
+        .filter(|age| word >> (age - 1) & 1 != 0 && wires >> wire(config.p, last - age) & 1 == 0)
+        .map(|age| cycle - age)
+        .collect()
+}
+
+/// The wire of a port that is bit `bit` of its value.
+fn wire(port: Range, bit: u32) -> u32 {
+    let right = u32::from(port.right);
+    if port.left >= port.right {
+        right + bit
+    } else {
+        right - bit
+    }
+}

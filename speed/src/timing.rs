@@ -1,0 +1,175 @@
+//! How long the calls take: the best of many rounds, in which the calls that are held against each other take turns.
+use crate::engine::{Engine, Plain, Record};
+use crate::inputs::{cut, fails, kept_rows, list_trace, Call, Input, BENCH, CYCLES, LIST};
+use crate::plain::Config;
+use crate::proved::Library;
+use std::hint::black_box;
+use std::time::{Duration, Instant};
+
+/// Each call is timed so often, or more often until so much time is over, and the best is taken: what else the machine does
+/// only ever adds time, and seldom goes on for so long.
+#[derive(Clone, Copy)]
+pub struct Plan {
+    pub least_rounds: usize,
+    pub least_time: Duration,
+}
+
+/// The first rounds bring memory and branch prediction in, and do not count.
+const WARMING: usize = 2;
+
+/// What an input took, in ns a step.
+pub struct Times {
+    /// Of each library, in the order given.
+    pub libraries: Vec<f64>,
+    /// What the first library is held against: ordinary Rust or, for a recheck or a list, its own full check.
+    pub yardstick: f64,
+    /// Of a list's trace, the share of the cycles that fail.
+    pub failing: Option<f64>,
+}
+
+/// What the calls write: the same for all that are held against each other, so that none has the better memory.
+struct Memory {
+    record: Record,
+    list: Vec<u32>,
+}
+
+/// A call that is timed. It was done when it was compared, so here it is done as well.
+type Timed<'a> = Box<dyn Fn(&mut Memory) + 'a>;
+
+pub fn times(input: &Input, trace: &[u32], libraries: &[Library], plan: Plan) -> Times {
+    match input.call {
+        Call::FullCheck | Call::Bench => all_at_once(input, trace, libraries, plan),
+        Call::Recheck | Call::List { .. } => one_by_one(input, trace, libraries, plan),
+    }
+}
+
+/// The calls of all the input's checkers are timed together, beside those of ordinary Rust.
+fn all_at_once(input: &Input, trace: &[u32], libraries: &[Library], plan: Plan) -> Times {
+    let checkers = &input.checkers[..];
+    let (call, entries): (fn(_, _, _) -> _, _) = match input.call {
+        Call::Bench => (bench, BENCH),
+        _ => (full_checks, CYCLES),
+    };
+    let mut calls: Vec<Timed> = libraries.iter().map(|library| call(library, checkers, trace)).collect();
+    calls.push(call(&Plain, checkers, trace));
+    let mut memory = Memory { record: Record::new(entries), list: Vec::new() };
+    let best = best_times(&calls, |memory| memory.record.words.fill(0), &mut memory, plan);
+    per_step(&best, CYCLES * checkers.len())
+}
+
+/// Each checker's call is timed alone, beside its full check over the same trace, and the best times are added up: 64 traces
+/// and kept records at once would be too much for the cache, and it would be the memory that is timed.
+fn one_by_one(input: &Input, trace: &[u32], libraries: &[Library], plan: Plan) -> Times {
+    let checkers = input.checkers.len();
+    let plan = Plan { least_time: plan.least_time / checkers as u32, ..plan };
+    let mut memory = Memory { record: Record::new(CYCLES), list: vec![0; LIST] };
+    let mut sums = vec![Duration::ZERO; libraries.len() + 1];
+    let mut failing = 0;
+    for (k, config) in input.checkers.iter().enumerate() {
+        let best = match input.call {
+            Call::List { one_in } => list_times(config, &list_trace(config, one_in), libraries, &mut memory, plan),
+            _ => recheck_times(config, trace, k, libraries, &mut memory, plan),
+        };
+        sums.iter_mut().zip(best).for_each(|(sum, best)| *sum += best);
+        failing += memory.record.rows.iter().filter(|row| fails(**row)).count();
+    }
+    let mut times = per_step(&sums, CYCLES * checkers);
+    if let Call::List { .. } = input.call {
+        // A list goes over the trace twice, once to count and once to write.
+        times.libraries.iter_mut().for_each(|time| *time /= 2.0);
+        times.failing = Some(failing as f64 / (CYCLES * checkers) as f64);
+    }
+    times
+}
+
+fn recheck_times(
+    config: &Config,
+    trace: &[u32],
+    k: usize,
+    libraries: &[Library],
+    memory: &mut Memory,
+    plan: Plan,
+) -> Vec<Duration> {
+    let kept = kept_rows(config, trace, k);
+    let trace = cut(trace, k, CYCLES);
+    let mut calls: Vec<Timed> = libraries.iter().map(|library| recheck(library, config, trace)).collect();
+    calls.push(full_check(&libraries[0], config, trace));
+    // Before the full check as well, so that both find the record in the same state of the cache.
+    best_times(&calls, |memory| memory.record.make_false(&kept), memory, plan)
+}
+
+fn list_times(config: &Config, trace: &[u32], libraries: &[Library], memory: &mut Memory, plan: Plan) -> Vec<Duration> {
+    let mut calls: Vec<Timed> = libraries.iter().map(|library| failures(library, config, trace)).collect();
+    calls.push(full_check(&libraries[0], config, trace));
+    best_times(&calls, |_| (), memory, plan)
+}
+
+/// The best time of each call. `prepare` comes before each of them and is not timed.
+fn best_times(calls: &[Timed], prepare: impl Fn(&mut Memory), memory: &mut Memory, plan: Plan) -> Vec<Duration> {
+    let mut best = vec![Duration::MAX; calls.len()];
+    let mut round = 0;
+    let started = Instant::now();
+    while round < WARMING + plan.least_rounds || started.elapsed() < plan.least_time {
+        // The calls take turns in going first.
+        for turn in 0..calls.len() {
+            let call = (round + turn) % calls.len();
+            prepare(memory);
+            let started = Instant::now();
+            calls[call](memory);
+            let time = started.elapsed();
+            if round >= WARMING {
+                best[call] = best[call].min(time);
+            }
+        }
+        round += 1;
+    }
+    best
+}
+
+/// `best` has the time of each library, then that of the yardstick.
+fn per_step(best: &[Duration], steps: usize) -> Times {
+    let mut libraries: Vec<f64> = best.iter().map(|time| time.as_nanos() as f64 / steps as f64).collect();
+    let yardstick = libraries.pop().expect("the yardstick is timed too");
+    Times { libraries, yardstick, failing: None }
+}
+
+// What is handed in and what comes out goes through `black_box`, so that the compiler knows nothing of either.
+
+fn full_checks<'a>(engine: &'a dyn Engine, checkers: &'a [Config], trace: &'a [u32]) -> Timed<'a> {
+    Box::new(move |memory| {
+        for (k, config) in checkers.iter().enumerate() {
+            let trace = black_box(cut(trace, k, CYCLES));
+            let answer = engine.full_check(black_box(config), trace, &mut memory.record);
+            black_box((answer, &mut *memory)).0.expect("done when compared");
+        }
+    })
+}
+
+fn full_check<'a>(library: &'a Library, config: &'a Config, trace: &'a [u32]) -> Timed<'a> {
+    full_checks(library, std::slice::from_ref(config), trace)
+}
+
+fn bench<'a>(engine: &'a dyn Engine, checkers: &'a [Config], trace: &'a [u32]) -> Timed<'a> {
+    Box::new(move |memory| {
+        for t in 0..CYCLES {
+            let frames = black_box(cut(trace, t, BENCH));
+            let answer = engine.bench_step(black_box(checkers), frames, &mut memory.record);
+            black_box((answer, &mut *memory)).0.expect("done when compared");
+        }
+    })
+}
+
+/// From cycle 0, and with cycle 0 alone edited: so in all later cycles it looks whether it can stop.
+fn recheck<'a>(library: &'a Library, config: &'a Config, trace: &'a [u32]) -> Timed<'a> {
+    Box::new(move |memory| {
+        let answer = library.recheck(black_box(config), black_box(trace), &mut memory.record, 0..1);
+        black_box((answer, memory)).0.expect("done when compared");
+    })
+}
+
+fn failures<'a>(library: &'a Library, config: &'a Config, trace: &'a [u32]) -> Timed<'a> {
+    Box::new(move |memory| {
+        let answer = library.failures(black_box(config), black_box(trace), &mut memory.list);
+        black_box((answer, memory)).0.expect("done when compared");
+    })
+}
