@@ -17,7 +17,8 @@ use Rattle.trace.specs.Runs.{keptAt}
 use Rattle.rules.specs.Rules.{marks}
 use Rattle.counts.specs.Counts.{marksIn, change}
 use Rattle.record.specs.Records.{recordFits, checkRefusal}
-use Rattle.recheck.specs.Rechecks.{recheckRefusal, Rechecked, RecheckAnswer, Resumable, Resumed}
+use Rattle.resume.specs.Resumes.{Resumable, Resumed}
+use Rattle.recheck.specs.Rechecks.{recheckRefusal, Rechecked, RecheckAnswer}
 use Rattle.bus.proofs.Tests.{is-true, of-true, and-left, and-right}
 use Rattle.config.proofs.Refusals.{word-decides, not-refused}
 use Rattle.record.proofs.Refusals.{Accepted, check-accepted}

@@ -25,7 +25,8 @@ use Rattle.trace.specs.Traces.{frames, frameAt, traceFits}
 use Rattle.trace.specs.Runs.{wordAt, keptAt, Written}
 use Rattle.counts.specs.Counts.{marksIn, change}
 use Rattle.record.specs.Records.{TrueRecord, recordFits}
-use Rattle.recheck.specs.Rechecks.{recheckRefusal, ownWord, ownRow, Rechecked, Edited, Demanded}
+use Rattle.resume.specs.Resumes.{ownWord, ownRow}
+use Rattle.recheck.specs.Rechecks.{recheckRefusal, Rechecked, Edited, Demanded}
 use Rattle.trace.proofs.Runs.{run-steps, Follows, same-words, Edit, true-ends, true-entries}
 use Rattle.counts.proofs.Counted.{marks-same, marks-split}
 

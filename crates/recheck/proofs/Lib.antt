@@ -1,5 +1,4 @@
 -- Why the recheck leaves what demand 3 asks for.
 pub mod Signed
-pub mod Going
 pub mod Demand
 pub mod Answers

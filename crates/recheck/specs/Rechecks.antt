@@ -9,12 +9,12 @@ use lib.ListN.{length, getD}
 use Rattle.rules.specs.declared.config.Config.{Config}
 use Rattle.rules.specs.Config.{configRefusal, Good}
 use Rattle.rules.specs.Rules.{marks, wordBefore}
-use Rattle.rules.specs.Step.{stepRow, stepWord}
 use Rattle.rules.specs.Possible.{possible}
 use Rattle.trace.specs.Traces.{frames, frameAt, traceFits}
-use Rattle.trace.specs.Runs.{wordAt, keptAt, Ends, Written}
-use Rattle.counts.specs.Counts.{marksIn, change}
+use Rattle.trace.specs.Runs.{keptAt, Ends, Written}
+use Rattle.counts.specs.Counts.{change}
 use Rattle.record.specs.Records.{TrueRecord, recordFits}
+use Rattle.resume.specs.Resumes.{ownWord, ownRow}
 
 -- refusals 1 to 7, in that order: "6: a above b, or b above N", "7: the word to go on from is not possible"
 unfoldable pub recheckRefusal : Config → List ℕ → List ℕ → List ℕ → ℕ → ℕ → ℕ
@@ -25,15 +25,6 @@ recheckRefusal c trace rows words a b =
     4)
     (configRefusal c)
 
-module _ (c : Config) (trace words : List ℕ) (a : ℕ) where
-  -- the recheck's own word before cycle t: it "goes on from kept word a−1 (0 when a is 0), one step for each cycle of the lent trace from a on"
-  unfoldable pub ownWord : ℕ → ℕ
-  ownWord t = wordAt (stepWord c) (frameAt trace) a (keptAt words a) t
-
-  -- the row that it gives cycle t
-  unfoldable pub ownRow : ℕ → ℕ
-  ownRow t = stepRow c (ownWord t) (frameAt trace t)
-
 -- What a recheck that is not refused does to any rows and words: "e and the entries from a to e−1 are those that Recheck above gives", and nothing else
 -- is altered. The changes are over a to e−1, "which is also that over all N rows".
 pub record Rechecked (c : Config) (trace rows words : List ℕ) (a b : ℕ) (rows′ words′ : List ℕ) (e : ℕ) (changes : List ℤ) : Type 0 where
@@ -42,24 +33,6 @@ pub record Rechecked (c : Config) (trace rows words : List ℕ) (a b : ℕ) (row
   pub words-are : Written (λ t. ownWord c trace words a (suc t)) a e words words′
   pub changes-are : (i : ℕ) → i < marks → getD changes i (pos 0) ≡ change rows′ rows i a e
   pub changes-all : (i : ℕ) → i < marks → getD changes i (pos 0) ≡ change rows′ rows i 0 (frames trace)
-
--- What the run of a recheck may go by: it was not refused, and `word` is the kept word before a.
-pub record Resumable (c : Config) (trace rows words : List ℕ) (a b word : ℕ) : Type 0 where
-  pub good : Good c
-  pub short : frames trace ≤ 65536
-  pub rows-length : length rows ≡ frames trace
-  pub words-length : length words ≡ frames trace
-  pub low : a ≤ b
-  pub high : b ≤ frames trace
-  pub word-is : word ≡ keptAt words a
-  pub possible-word : T (possible c word)
-
--- What the run leaves: `Rechecked` with 65,536 more than each change.
-pub record Resumed (c : Config) (trace rows words : List ℕ) (a b : ℕ) (rows′ words′ : List ℕ) (e : ℕ) (counts : List ℕ) : Type 0 where
-  pub ends : Ends (ownWord c trace words a) (keptAt words) b (frames trace) e
-  pub rows-are : Written (ownRow c trace words a) a e rows rows′
-  pub words-are : Written (λ t. ownWord c trace words a (suc t)) a e words words′
-  pub counts-are : (i : ℕ) → i < marks → getD counts i 0 + marksIn rows i a e ≡ 65536 + marksIn rows′ i a e
 
 -- Refused: "A refusal writes nothing; every other number answered is 0".
 pub record NotRechecked (rows words rows′ words′ : List ℕ) (e : ℕ) (changes : List ℤ) : Type 0 where

@@ -1,33 +1,23 @@
 // The recheck after an edit.
-use super::block::block_end;
 use config::refusal;
 use counts::Tally;
-use counts::marks_in;
-use engine::run;
 use record::lengths_refusal;
+use resume::resume;
 use rules::Config;
 use rules::MARKS;
-use trace::Stretch;
 ghost use mathlib.Core.Path.{_≡_};
-ghost use mathlib.Core.Bool.{true, false};
 ghost use Prim.Native.Nat.{ℕ, _≤_, _<_};
 ghost use lib.IntN.{pos, subℕ};
 ghost use lib.ListN.{length, getD};
 ghost use Rattle.rules.specs.Rules.{marks};
 ghost use Rattle.trace.specs.Runs.{keptAt};
-ghost use Rattle.recheck.specs.Rechecks.{RecheckAnswer, Resumable, Resumed};
+ghost use Rattle.recheck.specs.Rechecks.{RecheckAnswer};
 
 // The refusal number or 0, the cycle where the recheck ended, and by how much each mark's count changed; refused: all 0.
 pub struct RecheckResult {
     pub refusal: u32,
     pub end: usize,
     pub changes: [i32; MARKS],
-}
-
-// Where a run ended, and 65,536 more than each mark's change: so no count falls below 0 on the way.
-struct Run {
-    end: usize,
-    tally: Tally,
 }
 
 // Goes on from the kept word before cycle a, over the edited cycles a to b-1, and further until its word is the kept one. Refusals 1 to 7; refused: rows and
@@ -79,55 +69,6 @@ fn kept_before(words: &[u64], a: usize) -> u64
     ensures { λ r. ⌜ r ≡ keptAt (now (words .entry)) a ⌝ }
 {
     if a == 0 { 0 } else { words[a - 1] }
-}
-
-// Runs from cycle a on with the word before it, for input that was tested, a block of cycles at a time. A block's marks are counted before and after it is
-// run: the rows behind the end have the same marks in both counts.
-fn resume(
-    c: Config,
-    trace: &[u32],
-    rows: &mut [u32],
-    words: &mut [u64],
-    a: usize,
-    b: usize,
-    word: u64,
-) -> Run
-    requires { ⌜ Resumable c (now trace) (now rows) (now words) a b word ⌝ }
-    ensures { λ r. ⌜ Resumed c (now (trace .entry)) (now (rows .entry)) (now (words .entry)) a b (now (rows .exit)) (now (words .exit)) (r .end) (r .tally .counts) ⌝ }
-{
-    let n = rows.len();
-    let mut t = a;
-    let mut own = word;
-    let mut kept = word;
-    let mut tally = Tally::all(65536);
-    while (t < n) & goes_on(t, b, own, kept) {
-        let to = block_end(a, t, b, n);
-        let old = marks_in(rows, t, to);
-        let block = Stretch {
-            from: 0,
-            at: t,
-            to,
-            stops: b <= t,
-            word: own,
-            kept,
-        };
-        let reached = run(c, trace, rows, words, block);
-        tally = tally.moved(old, marks_in(rows, t, to));
-        t = reached.at;
-        own = reached.word;
-        kept = reached.kept;
-    }
-    Run { end: t, tally }
-}
-
-// Whether a run goes on before cycle t: it is not yet at b, or its word is not the kept one.
-fn goes_on(t: usize, b: usize, own: u64, kept: u64) -> bool
-    ensures { λ r. ⌜ (r ≡ true → b ≤ t → own ≡ kept → ⊥) × (r ≡ false → (b ≤ t) × (own ≡ kept)) ⌝ }
-{
-    if t < b {
-        return true;
-    }
-    own != kept
 }
 
 // The changes of a run's tally.

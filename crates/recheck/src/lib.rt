@@ -1,5 +1,4 @@
 // The recheck after an edit.
-mod block;
 mod edit;
 
 pub use edit::RecheckResult;

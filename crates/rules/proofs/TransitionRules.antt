@@ -14,7 +14,7 @@ use Rattle.rules.specs.Config.Family.{transition}
 use Rattle.rules.specs.Frame.{Trace, up, P, Q, R}
 use Rattle.rules.specs.Checks.{Checks, accepted, fails}
 use Rattle.rules.specs.Transition.{transitionChecks, stored}
-use Rattle.rules.specs.Rules.{marksOf, openOf, word, wordBefore}
+use Rattle.rules.specs.Rules.{checkMarks, marksOf, openOf, word, wordBefore}
 use Rattle.rules.specs.Step.{pends, stepMarksOf, stepOpenOf}
 use Rattle.rules.proofs.Accepted.{accepted-law}
 
@@ -65,4 +65,4 @@ module _ (c : Config) (tr : Trace) where
 
     pub transition-marks : (t : ℕ) → up (tr t) ≡ true → marksOf transition c tr t ≡ stepMarksOf c (wordBefore c tr t) (tr t) transition
     unfolding marksOf stepMarksOf pends
-    transition-marks t u i = record { failure = failure-law t u i; illegal = false; opened = started t u i; closed = false; restarted = false }
+    transition-marks t u i = checkMarks (failure-law t u i) (started t u i)

@@ -27,7 +27,7 @@ use Rattle.trace.proofs.Written.{written-none, written-on}
 use Rattle.trace.proofs.Running.{kept-enters, kept-steps}
 use Rattle.counts.specs.Counts.{marksIn}
 use Rattle.counts.proofs.Counted.{marks-none, marks-le, marks-same, marks-split}
-use Rattle.recheck.specs.Rechecks.{ownWord, ownRow, Resumable, Resumed}
+use Rattle.resume.specs.Resumes.{ownWord, ownRow, Resumable, Resumed}
 
 module _ (c : Config) (trace rows₀ words₀ : List ℕ) (a b : ℕ) where
   pub record Going (rows words : List ℕ) (t own kept : ℕ) (counts : List ℕ) : Type 0 where

@@ -1,9 +1,9 @@
--- `recheck::edit::goes_on` meets its contract: each test is read as what it says of the numbers. Assumes nothing.
+-- `resume::run::goes_on` meets its contract: each test is read as what it says of the numbers. Assumes nothing.
 use native.Mathlib.Omega.{arith}
 use borrow.Author.Tests.{ltb-true, ltb-false, leb-true, leb-false, eqb-true}
 use Rattle.bus.proofs.Tests.{of-false, differ-true, differ-false}
-use Rattle.recheck.proofs.edit.goes_on.Statement.{statement}
-use Rattle.recheck.proofs.edit.goes_on.Tie as tie
+use Rattle.resume.proofs.run.goes_on.Statement.{statement}
+use Rattle.resume.proofs.run.goes_on.Tie as tie
 
 returns : tie.Need-returns
 returns c = (λ h l e. omega (arith, ltb-true, leb-true), λ h. absurd (of-false h tt))

@@ -1,4 +1,4 @@
--- `recheck::edit::resume` meets its contract. The loop's invariant is `Going`: the run from a has come to cycle t with no cycle from b on where it could
+-- `resume::run::resume` meets its contract. The loop's invariant is `Going`: the run from a has come to cycle t with no cycle from b on where it could
 -- stop. A block that is entered where the run does not stop comes further, so the measure, what is left of the record, falls. Assumes nothing.
 use Prim.Native.Nat.{ℕ, _-_, _≤_, _<_}
 use mathlib.Core.Path.{_≡_, subst}
@@ -7,9 +7,9 @@ use native.Mathlib.Omega.{arith}
 use lib.ListN.{length}
 use Rattle.bus.proofs.Tests.{bound-true, bound-rest, bound-false}
 use Rattle.trace.specs.Traces.{frames}
-use Rattle.recheck.proofs.Going.{Going, going-none, runnable, further, moved-low, moved-high, going-more, going-done}
-use Rattle.recheck.proofs.edit.resume.Statement.{statement}
-use Rattle.recheck.proofs.edit.resume.Tie as tie
+use Rattle.resume.proofs.Going.{Going, going-none, runnable, further, moved-low, moved-high, going-more, going-done}
+use Rattle.resume.proofs.run.resume.Statement.{statement}
+use Rattle.resume.proofs.run.resume.Tie as tie
 
 abbrev Inv-loop : tie.InvT-loop
 Inv-loop c trace rows₀ words₀ a b word n t₀ own₀ kept₀ tally₀ rows words t own kept tally =

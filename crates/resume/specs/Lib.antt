@@ -1,0 +1,2 @@
+-- What the contract of the run of a recheck cites.
+pub mod Resumes

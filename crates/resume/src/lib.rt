@@ -1,0 +1,6 @@
+// The run of a recheck, for input that was tested.
+mod block;
+mod run;
+
+pub use run::Run;
+pub use run::resume;
