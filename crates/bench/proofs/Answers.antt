@@ -5,9 +5,9 @@ use mathlib.Core.List.{List}
 use native.Mathlib.Omega.{arith}
 use lib.ListN.{length}
 use Rattle.rules.specs.declared.config.Config.{Config}
-use Rattle.one_checker.specs.One.{lengthsRefusal}
+use Rattle.bench_lengths.specs.Lengths.{lengthsRefusal}
 use Rattle.bench.specs.Bench.{Tested, Stepped, Steppable, BenchAnswer}
-use Rattle.one_checker.proofs.Lengths.{fitting}
+use Rattle.bench_lengths.proofs.Lengths.{fitting}
 
 module _ (table : List Config) (frames words rows : List ℕ) where
   abbrev pub lengthsOf : ℕ

@@ -10,7 +10,7 @@ use Rattle.rules.specs.declared.config.Config.{Config}
 use Rattle.rules.specs.Config.{Good}
 use Rattle.rules.specs.Possible.{possible}
 use Rattle.rules.specs.Step.{stepRow, stepWord}
-use Rattle.config.proofs.Refusals.{not-refused}
+use Rattle.open_words.proofs.Refusals.{not-refused}
 use Rattle.trace.specs.Traces.{frames, frameAt}
 use Rattle.trace.specs.Runs.{Written}
 use Rattle.trace.proofs.Written.{written-none, written-more}

@@ -6,13 +6,12 @@ use mathlib.Core.List.{List}
 use mathlib.Core.Logic.{_⊎_, inl, inr, ⊎-elim}
 use native.Mathlib.Nat.{le-refl, eq-or-lt-of-le, le-of-suc-le-suc}
 use native.Mathlib.Omega.{arith}
-use borrow.Author.Tests.{eq-eqb, ne-eqb, eqb-true, eqb-false}
+use borrow.Author.Tests.{eqb-true, eqb-false}
 use lib.Dec.{eqb}
 use lib.ListN.{length, getD}
-use Rattle.bus.proofs.Tests.{either}
-use Rattle.bus.proofs.Packed.{high-of, low-of}
+use Rattle.bits.proofs.Tests.{either}
+use Rattle.bits.proofs.Packed.{high-of, low-of}
 use Rattle.rules.specs.declared.config.Config.{Config}
-use Rattle.rules.specs.Possible.{wordRefusal}
 use Rattle.one_checker.specs.One.{tested}
 use Rattle.one_checker.proofs.Tests.{tested-kept, tested-good, tested-bad}
 use Rattle.bench.specs.Bench.{checkerAt, refusalAt, FirstBad, Tested}

@@ -1,5 +1,5 @@
 -- The bench step, from document 01, "What the viewer calls" and "Refusal numbers". Assumes nothing.
-use Prim.Native.Nat.{ℕ, _+_, _*_, _/_, _%_, _<_}
+use Prim.Native.Nat.{ℕ, _*_, _/_, _%_, _<_}
 use mathlib.Core.Path.{_≡_}
 use mathlib.Core.List.{List}
 use lib.ListN.{length, getD}
@@ -8,7 +8,7 @@ use Rattle.rules.specs.Frame.{frameWords}
 use Rattle.rules.specs.Possible.{wordRefusal}
 use Rattle.rules.specs.Step.{stepRow, stepWord}
 use Rattle.trace.specs.Traces.{frameAt}
-use Rattle.one_checker.specs.One.{lengthsRefusal}
+use Rattle.bench_lengths.specs.Lengths.{lengthsRefusal}
 
 -- what stands for a checker that the table has not: nothing is said of it
 abbrev pub blank : Config

@@ -12,7 +12,7 @@ use borrow.Author.Tests.{eqb-true, eqb-false, not-true, not-false}
 use lib.Dec.{T}
 use lib.ListN.{length, getD, take, drop, length-append, take-append-drop}
 use lib.Seq.{take-suc, take-take, getD-take, length-take-le}
-use Rattle.bus.proofs.Tests.{is-true}
+use Rattle.bits.proofs.Tests.{is-true}
 use Rattle.rules.specs.declared.config.Config.{Config}
 use Rattle.rules.specs.Config.{Good}
 use Rattle.rules.specs.Frame.{Trace}

@@ -6,11 +6,11 @@ use mathlib.Core.Logic.{⊎-elim}
 use native.Mathlib.Omega.{arith}
 use borrow.Author.Tests.{le-leb, lt-leb, leb-true, leb-false}
 use lib.Dec.{T, eqb, leb, leb→le, le→leb}
-use Rattle.bus.specs.Bits.{bit, number}
+use Rattle.bits.specs.Bits.{bit, number}
 use Rattle.bus.specs.Range.{width, within, wireOf, valueOf}
 use Rattle.bus.specs.declared.range.Range.{Range}
-use Rattle.bus.proofs.Bits.{number-ext, number-one, bit-number}
-use Rattle.bus.proofs.Tests.{and-intro, and-left, and-right, either}
+use Rattle.bits.proofs.Bits.{number-ext, number-one, bit-number}
+use Rattle.bits.proofs.Tests.{and-intro, and-left, and-right, either}
 
 pub left-low : (r : Range) → T (within r) → r .left ≤ 31
 unfolding within

@@ -7,11 +7,11 @@ use native.Mathlib.Omega.{arith}
 use lib.Dec.{T, leb, leb→le, lit<}
 use lib.Pow.{pow-pos}
 use borrow.Author.Tests.{leb-true, leb-false}
-use Rattle.bus.specs.Bits.{bit, number}
+use Rattle.bits.specs.Bits.{bit, number}
 use Rattle.bus.specs.Range.{within, width, wireOf, valueOf}
 use Rattle.bus.specs.declared.range.Range.{Range}
-use Rattle.bus.proofs.Tests.{and-left, and-right}
-use Rattle.bus.proofs.Bits.{number-is, number-lt, bit-number, bit-past}
+use Rattle.bits.proofs.Tests.{and-left, and-right}
+use Rattle.bits.proofs.Bits.{number-is, number-lt, bit-number, bit-past}
 
 -- the bit of the value that wire i carries
 bitAt : Range → ℕ → ℕ

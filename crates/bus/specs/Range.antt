@@ -2,7 +2,7 @@
 use Prim.Native.Nat.{ℕ, suc, _+_, _-_}
 use mathlib.Core.Bool.{Bool, _&&_, cond}
 use lib.Dec.{leb}
-use Rattle.bus.specs.Bits.{bit, number}
+use Rattle.bits.specs.Bits.{bit, number}
 use Rattle.bus.specs.declared.range.Range.{Range}
 
 -- "A port has a declared range left:right, each 0 to 31"

@@ -1,9 +1,11 @@
 // The declared range of a port, and the value that the port's wires hold.
-use super::mask::low_ones;
+use bits::ascending;
+use bits::descending;
+use bits::masked;
+use bits::masked_ascending;
 ghost use mathlib.Core.Path.{_≡_};
-ghost use Prim.Native.Nat.{ℕ, suc, _+_, _-_, _≤_, _<_};
+ghost use Prim.Native.Nat.{_≤_};
 ghost use lib.Dec.{T, eqb, leb};
-ghost use Rattle.bus.specs.Bits.{bit, number};
 ghost use Rattle.bus.specs.Range.{width, within, valueOf};
 
 // The ends of a port's declaration, as in Verilog: the wire `left` is the most significant.
@@ -58,6 +60,20 @@ impl Range {
         }
     }
 
+    // The same by masks, which depend on the range alone: for a loop that reads one port of a direction that is not known.
+    pub fn masked_value(self, wires: u32) -> u32
+        requires { ⌜ T (within self) ⌝ }
+        ensures { λ r. ⌜ r ≡ valueOf self wires ⌝ }
+    {
+        let left = self.left as u32;
+        let right = self.right as u32;
+        if right <= left {
+            masked(left, right, wires)
+        } else {
+            masked_ascending(left, right, wires)
+        }
+    }
+
     // Whether the port is declared from a higher wire down to a lower one, or has one wire: then its wires stand in the value's order.
     pub fn descends(self) -> bool
         ensures { λ r. ⌜ r ≡ leb (self .right) (self .left) ⌝ }
@@ -81,40 +97,4 @@ impl Range {
         let left = self.left as u32;
         (wires >> left) % 2 == 1
     }
-}
-
-// The wires from `right` up to `left`, the wire `right` as bit 0. The shift left drops the wires above `left`, and the shift right those below
-// `right`.
-fn descending(left: u32, right: u32, wires: u32) -> u32
-    requires { ⌜ (right ≤ left) × (left ≤ 31) ⌝ }
-    ensures { λ r. ⌜ r ≡ number (suc (left - right)) (λ (k : ℕ). bit wires (right + k)) ⌝ }
-{
-    (wires << (31 - left)) >> (31 - left + right)
-}
-
-// The same by a mask, which depends on the range alone: a loop over many samples has one shift and one mask in it, but is larger for other directions.
-fn masked(left: u32, right: u32, wires: u32) -> u32
-    requires { ⌜ (right ≤ left) × (left ≤ 31) ⌝ }
-    ensures { λ r. ⌜ r ≡ number (suc (left - right)) (λ (k : ℕ). bit wires (right + k)) ⌝ }
-{
-    (((wires as u64) >> right) & low_ones(left - right + 1)) as u32
-}
-
-// All 32 wires in the other order. The loop's bounds are constants, so that the compiler makes a bit reversal of it.
-fn reversed(wires: u32) -> u32
-    ensures { λ r. ⌜ r ≡ number 32 (λ (k : ℕ). bit wires (31 - k)) ⌝ }
-{
-    let mut v: u32 = 0;
-    for k in 0..32u32 {
-        v += ((wires >> (31 - k)) % 2) << k;
-    }
-    v
-}
-
-// The wires from `right` down to `left`, the wire `right` as bit 0. In the other order wire i stands at 31 - i, so that the range is a descending one.
-fn ascending(left: u32, right: u32, wires: u32) -> u32
-    requires { ⌜ (left < right) × (right ≤ 31) ⌝ }
-    ensures { λ r. ⌜ r ≡ number (suc (right - left)) (λ (k : ℕ). bit wires (right - k)) ⌝ }
-{
-    descending(31 - left, 31 - right, reversed(wires))
 }

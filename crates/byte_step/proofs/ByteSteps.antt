@@ -15,7 +15,7 @@ use Rattle.rules.specs.Config.{configRefusal, Good}
 use Rattle.rules.specs.Step.{stepRow, stepWord}
 use Rattle.rules.specs.Possible.{possible, wordRefusal}
 use Rattle.checker.specs.Calls.{StepAnswer}
-use Rattle.byte_step.specs.Bytes.{wordOf, bytesOf}
+use Rattle.word_bytes.specs.Bytes.{wordOf, bytesOf}
 use Rattle.byte_step.specs.Step.{stepRefusal, ByteStep}
 
 -- with eight bytes the refusal is that of the step by value

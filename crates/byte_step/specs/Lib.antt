@@ -1,3 +1,2 @@
--- What the contracts of one step on bytes cite.
-pub mod Bytes
+-- What the contract of one step on bytes cites.
 pub mod Step

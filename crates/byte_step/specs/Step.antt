@@ -10,7 +10,7 @@ use Rattle.rules.specs.declared.frame.Frame.{Frame}
 use Rattle.rules.specs.Config.{configRefusal}
 use Rattle.rules.specs.Step.{stepRow, stepWord}
 use Rattle.rules.specs.Possible.{possible}
-use Rattle.byte_step.specs.Bytes.{wordOf, bytesOf}
+use Rattle.word_bytes.specs.Bytes.{wordOf, bytesOf}
 
 -- 1, 2 and 3 of the configuration, 5 for a slice that is not 8 bytes long, 7 for a word that is not possible: "by number"
 unfoldable pub stepRefusal : Config → List ℕ → ℕ

@@ -1,5 +1,4 @@
 // One step of a checker whose open word is in eight lent bytes.
-mod bytes;
 mod step;
 
 pub use step::step_bytes;

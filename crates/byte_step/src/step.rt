@@ -1,10 +1,10 @@
 // One step on a word in lent bytes.
-use super::bytes::load;
-use super::bytes::store;
 use checker::Monitor;
 use config::config_refusal;
 use rules::Config;
 use rules::Frame;
+use word_bytes::load;
+use word_bytes::store;
 ghost use Rattle.byte_step.specs.Step.{ByteStep};
 
 // One step of the checker on the frame. The open word is in the eight lent bytes, least significant first: the next word is written there. Answers 256 times

@@ -1,6 +1,6 @@
 // How many checks an open word says are unfinished.
-use config::refusal;
 use cycle::to_bit;
+use open_words::refusal;
 use rules::Config;
 ghost use Rattle.checker.specs.Calls.{CountAnswer};
 

@@ -1,6 +1,6 @@
 // One step by value.
-use config::refusal;
-use engine::step;
+use one_step::step;
+use open_words::refusal;
 use rules::Config;
 use rules::Frame;
 ghost use Rattle.checker.specs.Calls.{StepAnswer};

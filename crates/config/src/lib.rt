@@ -1,6 +1,4 @@
-// The refusals of a configuration and of an open word to go on from.
+// The refusal of a configuration.
 mod config;
-mod words;
 
 pub use config::config_refusal;
-pub use words::refusal;

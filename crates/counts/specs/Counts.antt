@@ -1,22 +1,13 @@
 -- Counts of marks over rows, from document 01, "Totals" and "Recheck". Assumes nothing.
-use Prim.Native.Nat.{ℕ, zero, suc, _+_, _<_}
+use Prim.Native.Nat.{ℕ, _<_}
 use mathlib.Core.Path.{_≡_}
-use mathlib.Core.Bool.{Bool, _&&_, cond}
+use mathlib.Core.Bool.{cond}
 use mathlib.Core.List.{List}
 use lib.Dec.{leb}
 use lib.IntN.{ℤ, subℕ}
 use lib.ListN.{length, getD}
-use Rattle.bus.specs.Bits.{toBit, bit}
 use Rattle.rules.specs.Rules.{marks}
-
--- at how many numbers below k f holds
-unfoldable pub count : ℕ → (ℕ → Bool) → ℕ
-count zero f = 0
-count (suc k) f = count k f + toBit (f k)
-
--- how many of the rows of cycles a to e−1 have mark i, whatever other bits they have
-unfoldable pub marksIn : List ℕ → ℕ → ℕ → ℕ → ℕ
-marksIn rows i a e = count e (λ t. leb a t && bit (getD rows t 0) i)
+use Rattle.halves.specs.Rows.{marksIn}
 
 -- "new count less old count over a to e−1"
 unfoldable pub change : List ℕ → List ℕ → ℕ → ℕ → ℕ → ℤ

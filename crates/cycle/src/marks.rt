@@ -6,7 +6,7 @@ use rules::OPENED;
 use rules::RESTARTED;
 ghost use mathlib.Core.Path.{_≡_};
 ghost use Prim.Native.Nat.{_≤_};
-ghost use Rattle.bus.specs.Bits.{toBit};
+ghost use Rattle.bits.specs.Bits.{toBit};
 ghost use Rattle.rules.specs.Rules.{rowOf, checkMarks};
 
 // 1 for true and 0 for false.

@@ -1,38 +1,24 @@
 -- The word of the attempts that fail in a cycle: those of the open word that had not their event, and of kind 0 the oldest alone. Bit by bit, the exclusive or
 -- takes away those that had it, and the mask leaves one place. Assumes nothing.
-use Prim.Native.Nat.{ℕ, zero, suc, _-_, _/_, _%_, _^_, _<_, _≤_, zero-le}
+use Prim.Native.Nat.{ℕ, suc, _-_, _/_, _%_, _^_, _<_, _≤_, zero-le}
 use mathlib.Core.Path.{_≡_, refl, sym, ap, ap₂, _∙_}
-use mathlib.Core.Bool.{Bool, true, false, not, _&&_, _||_, cond, and-true}
+use mathlib.Core.Bool.{Bool, true, false, not, _&&_, _||_, and-true}
 use mathlib.Core.Logic.{⊎-elim}
-use native.Mathlib.Nat.{le-refl, eq-or-lt-of-le, mod-lt, two-pow-succ}
+use native.Mathlib.Nat.{le-refl, eq-or-lt-of-le, two-pow-succ}
 use native.Mathlib.Omega.{arith}
-use lib.Dec.{eqb, ltb, lit<, eqb→eq}
+use lib.Dec.{eqb, ltb, eqb→eq}
 use borrow.Author.Tests.{ltb-true, ltb-false, eq-eqb, ne-eqb}
 use lib.Pow.{pow-pos}
 use native.Mathlib.Numerals.{one-add}
-use lib.Bits.{bitAnd, bitXor, xor-shr, xor-mod, xor-lt, and-le-l}
-use Rattle.bus.specs.Bits.{bit, number}
-use Rattle.bus.proofs.Tests.{either, of-true, iff-eq}
-use Rattle.bus.proofs.Bits.{bit-mod, bit-past, bit-and, bit-shr, bit-number, number-is}
+use lib.Bits.{bitAnd, bitXor, and-le-l}
+use Rattle.bits.specs.Bits.{bit, number}
+use Rattle.bits.proofs.Tests.{either, of-true, iff-eq}
+use Rattle.bits.proofs.Bits.{bit-mod, bit-past, bit-and, bit-shr, bit-number, number-is}
 use Rattle.rules.specs.declared.config.Config.{Config}
 use Rattle.rules.specs.declared.frame.Frame.{Frame}
 use Rattle.rules.specs.Frame.{P}
+use Rattle.sequence.proofs.Missed.{bit-without, without-lt}
 use Rattle.listed.proofs.Highest.{top-set, without-top}
-
-pub bit-xor : (a b i : ℕ) → bit (bitXor a b) i ≡ cond (bit b i) (not (bit a i)) (bit a i)
-unfolding bit
-bit-xor a b i =
-    ap (λ (n : ℕ). eqb (n % 2) 1) (xor-shr a b i) ∙ ap (λ (n : ℕ). eqb n 1) (xor-mod (a / 2 ^ i) (b / 2 ^ i) 1)
-    ∙ digits (a / 2 ^ i % 2) (b / 2 ^ i % 2) (mod-lt (a / 2 ^ i) (lit< tt)) (mod-lt (b / 2 ^ i) (lit< tt))
-  where
-    digits : (d e : ℕ) → d < 2 → e < 2 → eqb (bitXor d e) 1 ≡ cond (eqb e 1) (not (eqb d 1)) (eqb d 1)
-    digits zero zero h g = refl
-    digits zero (suc zero) h g = refl
-    digits (suc zero) zero h g = refl
-    digits (suc zero) (suc zero) h g = refl
-    digits zero (suc (suc e)) h g = absurd (omega arith)
-    digits (suc zero) (suc (suc e)) h g = absurd (omega arith)
-    digits (suc (suc d)) e h g = absurd (omega arith)
 
 bit-power : (k i : ℕ) → bit (2 ^ k) i ≡ eqb i k
 bit-power k i =
@@ -47,11 +33,6 @@ bit-power k i =
     (λ (l : k < i). bit-past (2 ^ k) (suc k) i double l ∙ sym (ne-eqb i k (λ e. omega (arith, l, e)))) (eq-or-lt-of-le (ltb-false i k q)))
     (either (ltb i k))
 
-without : (a b : Bool) → cond (a && b) (not a) a ≡ (a && not b)
-without true true = refl
-without true false = refl
-without false b = refl
-
 module _
     (c : Config) (w : ℕ) (f : Frame) (e : ℕ) (two : 2 ≤ c .n) (low : w < 2 ^ (c .n - 1))
     (events : e ≡ number (c .n) (λ (i : ℕ). bit (P c f) (c .n - 1 - i))) where
@@ -59,7 +40,7 @@ module _
   lost = bitXor w (bitAnd w (e / 2))
 
   lost-lt : lost < 2 ^ (c .n - 1)
-  lost-lt = xor-lt (c .n - 1) w (bitAnd w (e / 2)) low (omega (arith, and-le-l w (e / 2)))
+  lost-lt = without-lt (c .n - 1) w (e / 2) low
 
   -- the attempt that started j + 1 cycles ago had not its event
   lost-event : (j : ℕ) → j < c .n - 1 → bit lost j ≡ (bit w j && not (bit (P c f) (c .n - 1 - suc j)))
@@ -67,9 +48,7 @@ module _
       let event : bit (e / 2) j ≡ bit (P c f) (c .n - 1 - suc j) =
       bit-shr e 1 j ∙ ap (bit e) (one-add j) ∙ ap (λ (x : ℕ). bit x (suc j)) events
       ∙ bit-number (c .n) (λ (i : ℕ). bit (P c f) (c .n - 1 - i)) (suc j) (omega arith) in
-      bit-xor w (bitAnd w (e / 2)) j
-      ∙ ap (λ (b : Bool). cond b (not (bit w j)) (bit w j)) (bit-and w (e / 2) j ∙ ap (λ (b : Bool). bit w j && b) event)
-      ∙ without (bit w j) (bit (P c f) (c .n - 1 - suc j))
+      bit-without w (e / 2) j ∙ ap (λ (b : Bool). bit w j && not b) event
 
   abbrev Lost : ℕ → Bool
   Lost j = bit w j && not (bit (P c f) (c .n - 1 - suc j)) && (not (eqb (c .kind) 0) || eqb (suc j) (c .n - 1))

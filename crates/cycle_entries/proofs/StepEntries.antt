@@ -11,9 +11,9 @@ use lib.Dec.{T, ltb, eqb, leb→le, ltb→lt, eqb→eq}
 use lib.Count.{ones, ones-le}
 use lib.ListN.{length}
 use borrow.Author.Tests.{ltb-true, ltb-false, eq-eqb}
-use Rattle.bus.specs.Bits.{toBit, bit, number}
-use Rattle.bus.proofs.Tests.{either, is-false, of-true, of-false, and-intro, and-left, and-right, some-intro}
-use Rattle.bus.proofs.Bits.{toBit-lt, bit-past, bit-number, bit-holds, number-lt}
+use Rattle.bits.specs.Bits.{toBit, bit, number}
+use Rattle.bits.proofs.Tests.{either, is-false, of-true, of-false, and-intro, and-left, and-right, some-intro}
+use Rattle.bits.proofs.Bits.{toBit-lt, bit-past, bit-number, bit-holds, number-lt}
 use Rattle.rules.specs.declared.config.Config.{Config}
 use Rattle.rules.specs.declared.frame.Frame.{Frame}
 use Rattle.rules.specs.Config.{Family, family, maxWindow}

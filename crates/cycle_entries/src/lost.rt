@@ -6,7 +6,7 @@ ghost use mathlib.Core.Path.{_≡_};
 ghost use mathlib.Core.Bool.{not, _&&_, _||_};
 ghost use Prim.Native.Nat.{ℕ, suc, _-_};
 ghost use lib.Dec.{T, eqb};
-ghost use Rattle.bus.specs.Bits.{bit, number};
+ghost use Rattle.bits.specs.Bits.{bit, number};
 ghost use Rattle.rules.specs.Config.{Good, family};
 ghost use Rattle.rules.specs.Config.Family.{sequence};
 ghost use Rattle.rules.specs.Frame.{P};

@@ -11,9 +11,10 @@ use Rattle.rules.specs.declared.config.Config.{Config}
 use Rattle.rules.specs.declared.frame.Frame.{Frame}
 use Rattle.trace.specs.Traces.{frames, traceFits}
 use Rattle.rules.specs.Rules.{marks}
-use Rattle.record.specs.Records.{checkRefusal, CheckAnswer}
+use Rattle.lengths.specs.Lengths.{checkRefusal}
+use Rattle.record.specs.Records.{CheckAnswer}
 use Rattle.recheck.specs.Rechecks.{RecheckAnswer}
-use Rattle.record.proofs.Refusals.{check-accepted}
+use Rattle.lengths.proofs.Refusals.{check-accepted}
 use Rattle.edited.specs.Edits.{Stored, NotDone, Replaced}
 
 -- the changes of an answer that is not done

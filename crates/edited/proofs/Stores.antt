@@ -2,12 +2,10 @@
 use Prim.Native.Nat.{ℕ, _+_, _-_, _*_, _<_}
 use mathlib.Core.Path.{_≡_, sym, ap, _∙_}
 use mathlib.Core.List.{List}
-use mathlib.Core.Logic.{_≢_}
 use native.Mathlib.Omega.{arith}
-use lib.ListN.{length, getD}
 use Rattle.rules.specs.declared.frame.Frame.{Frame}
 use Rattle.rules.specs.Frame.{frameWords, sample}
-use Rattle.trace.specs.Traces.{frames, cut, frameAt}
+use Rattle.trace.specs.Traces.{frameAt}
 use Rattle.trace.specs.Runs.{Written}
 use Rattle.trace.proofs.Frames.{cut-same}
 use Rattle.edited.specs.Edits.{Stored}

@@ -9,7 +9,8 @@ use Rattle.rules.specs.declared.frame.Frame.{Frame}
 use Rattle.rules.specs.Frame.{frameWords, sample}
 use Rattle.rules.specs.Rules.{marks}
 use Rattle.trace.specs.Traces.{frames}
-use Rattle.record.specs.Records.{TrueRecord, checkRefusal}
+use Rattle.lengths.specs.Lengths.{checkRefusal}
+use Rattle.record.specs.Records.{TrueRecord}
 use Rattle.recheck.specs.Rechecks.{Edited, Demanded}
 
 -- the trace with the frame f in cycle t, and the same frames elsewhere

@@ -1,42 +1,19 @@
-// The family of a kind decides which step and which run there is. Neither is offered to the viewer.
-use cycle::Outcome;
+// The family of a kind decides which run there is. It is not offered to the viewer.
+use descending_runs::fill_descending;
+use descending_runs::seek_descending;
 use rules::Config;
-use rules::Frame;
-use sequence::sequence_cycle;
 use sequence_runs::fill_sequence;
 use sequence_runs::seek_sequence;
-use time::fill_time;
-use time::seek_time;
-use time::time_cycle;
+use time_runs::fill_time;
+use time_runs::seek_time;
 use trace::Reached;
 use trace::Stretch;
 use transition::all_descend;
-use transition::transition_cycle;
-use transition_runs::fill_descending;
 use transition_runs::fill_transition;
-use transition_runs::seek_descending;
 use transition_runs::seek_transition;
 ghost use mathlib.Core.Bool.{true, false};
 ghost use mathlib.Core.Path.{_≡_};
-ghost use lib.Dec.{T};
-ghost use Rattle.rules.specs.Config.{Good};
-ghost use Rattle.rules.specs.Possible.{possible};
-ghost use Rattle.rules.specs.Step.{Steps};
 ghost use Rattle.trace.specs.Stretches.{Runnable, Ran};
-
-// One step.
-pub fn step(c: Config, word: u64, frame: Frame) -> Outcome
-    requires { ⌜ (Good c) × (T (possible c word)) ⌝ }
-    ensures { λ r. ⌜ Steps c word frame (r .row) (r .word) ⌝ }
-{
-    let kind = c.kind;
-    match kind {
-        0..=2 => sequence_cycle(c, word, frame),
-        3..=5 => time_cycle(c, word, frame),
-        6 => transition_cycle(c, word, frame),
-        7..=255 => Outcome { row: 0, word: 0 },
-    }
-}
 
 // Runs a stretch of a trace into lent rows and words. The kind is looked at once for the stretch, and each family has loops of its own, in which the compiler
 // can keep what depends on the configuration alone. The loop of a stretch that does not stop has no test for it.

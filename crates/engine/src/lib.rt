@@ -1,5 +1,4 @@
-// One step and one run, for a configuration and an open word that were tested: the only places that look at the family.
+// One run of a stretch, for a configuration and an open word that were tested: it looks at the family.
 mod family;
 
 pub use family::run;
-pub use family::step;

@@ -12,8 +12,8 @@ use borrow.Author.Tests.{leb-true, leb-false}
 use native.Mathlib.Numerals.{one-add}
 use lib.Count.{ones, ones-cat}
 use lib.ListN.{length}
-use Rattle.bus.specs.Bits.{bit}
-use Rattle.bus.proofs.Tests.{either, of-true}
+use Rattle.bits.specs.Bits.{bit}
+use Rattle.bits.proofs.Tests.{either, of-true}
 use Rattle.listed.specs.Lists.{entry}
 use Rattle.entries.specs.Entries.{attemptEntries}
 use Rattle.listed.proofs.Highest.{top-set, within, highest-first, none-first}

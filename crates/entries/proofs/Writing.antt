@@ -6,8 +6,8 @@ use native.Mathlib.Nat.{two-pow-succ}
 use native.Mathlib.Omega.{arith}
 use lib.Dec.{T}
 use lib.ListN.{length, length-append}
-use Rattle.bus.specs.Bits.{bit}
-use Rattle.bus.proofs.Tests.{of-true}
+use Rattle.bits.specs.Bits.{bit}
+use Rattle.bits.proofs.Tests.{of-true}
 use Rattle.listed.specs.Lists.{Entry, entry}
 use Rattle.listed.proofs.Highest.{top-set, within, highest, Highest, highest-one}
 use Rattle.entries.specs.Entries.{attemptEntries, Stored}

@@ -5,7 +5,7 @@ use mathlib.Core.Bool.{Bool, cond}
 use mathlib.Core.List.{List, [], _∷_, _++_, map}
 use lib.ListN.{length}
 use lib.Seq.{sets}
-use Rattle.bus.specs.Bits.{bit}
+use Rattle.bits.specs.Bits.{bit}
 use Rattle.listed.specs.Lists.{Entry, entry, chosen, wordsOf}
 
 -- the entries of the attempts that the bits of a word say failed: bit j is the attempt from t−1−j

@@ -3,7 +3,7 @@ ghost use mathlib.Core.List.{[], _∷_};
 ghost use Prim.Native.Nat.{ℕ, _+_, _*_, _≤_, _<_};
 ghost use lib.Dec.{T};
 ghost use lib.ListN.{length};
-ghost use Rattle.bus.specs.Bits.{bit};
+ghost use Rattle.bits.specs.Bits.{bit};
 ghost use Rattle.listed.specs.Lists.{entry};
 ghost use Rattle.entries.specs.Entries.{attemptEntries, windowEntries, Stored};
 

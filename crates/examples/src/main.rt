@@ -1,8 +1,6 @@
-// The two recheck examples below the whiteboard table, the failure lists of cases C and F, the limits in the last lines of "Refusal numbers", a false record,
-// changes at both ends of their range, and first failures.
+// The two recheck examples below the whiteboard table, the limits in the last lines of "Refusal numbers", a false record, and changes at both ends of their
+// range.
 mod large;
-mod lists;
-mod searches;
 mod small;
 
 fn main() {
@@ -16,14 +14,4 @@ fn main() {
     large::too_many_rows();
     large::all_marks_gone();
     large::all_starts_seen();
-    lists::overlapping();
-    lists::ascending();
-    lists::windows();
-    lists::too_short();
-    lists::most_attempts();
-    lists::most_entries();
-    searches::smallest_cycle_first();
-    searches::no_rows();
-    searches::at_the_limits();
-    searches::above_the_limits();
 }

@@ -11,13 +11,13 @@ use borrow.Author.Tests.{eq-eqb, le-leb, lt-leb}
 use lib.Dec.{eqb, leb}
 use lib.ListN.{length, drop, replicate, length-replicate}
 use lib.Seq.{sets, sets-eq}
-use Rattle.bus.proofs.Tests.{is-true}
+use Rattle.bits.proofs.Tests.{is-true}
 use Rattle.rules.specs.declared.config.Config.{Config}
 use Rattle.rules.specs.Config.{configRefusal, Good}
 use Rattle.rules.specs.Frame.{frameWords}
 use Rattle.trace.specs.Traces.{frames, traceFits}
-use Rattle.record.specs.Records.{recordFits, checkRefusal}
-use Rattle.record.proofs.Refusals.{Accepted, check-accepted, accepted-short}
+use Rattle.lengths.specs.Lengths.{recordFits, checkRefusal}
+use Rattle.lengths.proofs.Refusals.{Accepted, check-accepted, accepted-short}
 use Rattle.listed.specs.Lists.{wordsOf}
 use Rattle.passes.specs.Listed.{failuresOf}
 use Rattle.failures.specs.Answers.{listRefusal, ListAnswer}

@@ -1,7 +1,7 @@
 // The failure list of a trace.
+use lengths::lengths_refusal;
 use passes::count_all;
 use passes::write_all;
-use record::lengths_refusal;
 use rules::Config;
 use trace::frames_in;
 ghost use Rattle.failures.specs.Answers.{ListAnswer};

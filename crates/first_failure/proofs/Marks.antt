@@ -5,8 +5,8 @@ use mathlib.Core.Bool.{Bool, true, false, not, _||_}
 use native.Mathlib.Nat.{mod-one}
 use native.Mathlib.Omega.{arith}
 use lib.Dec.{eqb}
-use Rattle.bus.specs.Bits.{toBit, bit}
-use Rattle.bus.proofs.Bits.{mod-more}
+use Rattle.bits.specs.Bits.{toBit, bit}
+use Rattle.bits.proofs.Bits.{mod-more}
 use Rattle.first_failure.specs.Search.{failing}
 
 pub low-marks : (row : ℕ) → not (eqb (row % 4) 0) ≡ failing row

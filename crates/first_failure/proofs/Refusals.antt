@@ -6,7 +6,7 @@ use mathlib.Core.Logic.{_⊎_, inl, inr}
 use native.Mathlib.Omega.{arith}
 use borrow.Author.Tests.{le-leb, lt-leb, leb-true, leb-false, eq-eqb, ne-eqb, eqb-true, eqb-false}
 use lib.Dec.{leb, eqb}
-use Rattle.bus.proofs.Tests.{either}
+use Rattle.bits.proofs.Tests.{either}
 use Rattle.first_failure.specs.Search.{searchRefusal}
 
 module _ (checkers cycles rows : ℕ) where

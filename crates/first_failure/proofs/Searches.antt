@@ -7,7 +7,7 @@ use mathlib.Core.Logic.{⊎-elim}
 use native.Mathlib.Nat.{eq-or-lt-of-le, le-of-suc-le-suc, mul-le-mul, mul-le-mul-right}
 use native.Mathlib.Omega.{arith}
 use lib.Dec.{T}
-use Rattle.bus.proofs.Tests.{of-true, of-false}
+use Rattle.bits.proofs.Tests.{of-true, of-false}
 use Rattle.first_failure.specs.Search.{failing, rowAt, Searched}
 
 -- the row of checker k in cycle t lies among the rows, and its place is small

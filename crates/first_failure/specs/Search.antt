@@ -5,7 +5,7 @@ use mathlib.Core.Bool.{Bool, true, false, _||_, cond}
 use mathlib.Core.List.{List}
 use lib.Dec.{T, leb, eqb}
 use lib.ListN.{length, getD}
-use Rattle.bus.specs.Bits.{bit}
+use Rattle.bits.specs.Bits.{bit}
 use Rattle.first_failure.specs.declared.search.FirstFailure.{FirstFailure}
 use Rattle.first_failure.specs.declared.search.FirstFailure.the-variants.{Refused, Nothing, At}
 

@@ -13,9 +13,9 @@ use native.Mathlib.Nat.{add-suc, le-of-suc-le-suc, le-refl, not-suc-le-zero}
 use native.Mathlib.Omega.{arith}
 use borrow.Author.Tests.{leb-true, leb-false, eq-eqb, ne-eqb}
 use lib.Dec.{T, leb, eqb, leb→le}
-use Rattle.bus.specs.Bits.{bit}
-use Rattle.bus.proofs.Bits.{bit-number, same-bits}
-use Rattle.bus.proofs.Tests.{either}
+use Rattle.bits.specs.Bits.{bit}
+use Rattle.bits.proofs.Bits.{bit-number, same-bits}
+use Rattle.bits.proofs.Tests.{either}
 use Rattle.rules.specs.declared.config.Config.{Config}
 use Rattle.rules.specs.declared.frame.Frame.{Frame}
 use Rattle.rules.specs.Config.{Family, family, Good}

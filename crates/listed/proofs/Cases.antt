@@ -1,7 +1,7 @@
 -- The worked examples of document 01, below the whiteboard table, follow from the rules by computation. Assumes nothing.
 use mathlib.Core.List.{[], _∷_}
 use mathlib.Core.Path.{_≡_, refl}
-use Rattle.bus.specs.Bits.{bit, some, every, number}
+use Rattle.bits.specs.Bits.{bit, some, every, number}
 use Rattle.bus.specs.Range.{width, wireOf, valueOf}
 use Rattle.rules.specs.Config.{family}
 use Rattle.rules.specs.Frame.{up}

@@ -10,7 +10,7 @@ use native.Mathlib.Omega.{arith}
 use lib.Dec.{T}
 use lib.ListN.{length, set}
 use lib.Seq.{sets}
-use Rattle.bus.proofs.Tests.{is-true, is-false}
+use Rattle.bits.proofs.Tests.{is-true, is-false}
 use Rattle.listed.specs.Lists.{Entry, chosen, wordsOf}
 
 -- ---- `chosen`

@@ -12,9 +12,9 @@ use native.Mathlib.Omega.{arith}
 use borrow.Author.Tests.{ne-eqb}
 use lib.Dec.{T, eqb, lit<}
 use lib.ListN.{length, getD}
-use Rattle.bus.specs.Bits.{toBit, bit, some}
-use Rattle.bus.proofs.Bits.{toBit-lt, eqb-toBit, bit-low, bit-double}
-use Rattle.bus.proofs.Tests.{either, some-none, some-intro, some-elim}
+use Rattle.bits.specs.Bits.{toBit, bit, some}
+use Rattle.bits.proofs.Bits.{toBit-lt, eqb-toBit, bit-low, bit-double}
+use Rattle.bits.proofs.Tests.{either, some-none, some-intro, some-elim}
 use Rattle.rules.specs.declared.config.Config.{Config}
 use Rattle.rules.specs.Config.{Family, family, Good}
 use Rattle.rules.specs.Config.Family.{sequence, time, transition, none}

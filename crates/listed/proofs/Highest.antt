@@ -11,9 +11,9 @@ use borrow.Author.Tests.{ltb-true, ltb-false}
 use lib.Count.{leadingZeros, leading-top}
 use lib.Dec.{T, leb, ltb, le→leb}
 use lib.Pow.{pow-pos}
-use Rattle.bus.specs.Bits.{toBit, bit}
-use Rattle.bus.proofs.Tests.{either, is-true, of-false}
-use Rattle.bus.proofs.Bits.{mod-more, bit-mod, bit-past, bit-top}
+use Rattle.bits.specs.Bits.{toBit, bit}
+use Rattle.bits.proofs.Tests.{either, is-true, of-false}
+use Rattle.bits.proofs.Bits.{mod-more, bit-mod, bit-past, bit-top}
 use Rattle.listed.specs.Lists.{chosen}
 use Rattle.listed.proofs.Chosen.{chosen-first, chosen-none}
 

@@ -11,9 +11,9 @@ use lib.ListN.{length, getD, take, set, length-append, length-set}
 use lib.Pow.{pow-mono, shr-lt}
 use lib.Seq.{take-suc-set}
 use borrow.Author.Tests.{eq-eqb, ne-eqb}
-use Rattle.bus.specs.Bits.{toBit, bit, number}
-use Rattle.bus.proofs.Bits.{bit-shr, bit-number, number-lt, shifted-one}
-use Rattle.bus.proofs.Tests.{of-true}
+use Rattle.bits.specs.Bits.{toBit, bit, number}
+use Rattle.bits.proofs.Bits.{bit-shr, bit-number, number-lt, shifted-one}
+use Rattle.bits.proofs.Tests.{of-true}
 use Rattle.listed.specs.Lists.{chosen}
 use Rattle.listed.proofs.Chosen.{chosen-ext}
 use Rattle.listed.proofs.Highest.{top-set, within, highest, Highest, highest-one, highest-first, none-first}

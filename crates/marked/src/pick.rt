@@ -3,7 +3,7 @@ ghost use mathlib.Core.Path.{_≡_};
 ghost use mathlib.Core.List.{_++_, map};
 ghost use Prim.Native.Nat.{ℕ, _+_, _-_, _^_, _≤_, _<_};
 ghost use lib.ListN.{length, take};
-ghost use Rattle.bus.specs.Bits.{number};
+ghost use Rattle.bits.specs.Bits.{number};
 ghost use Rattle.marked.specs.Picks.{blockCycles, marked, places, Picks};
 
 // The most cycles of a block, a multiple of 32.

@@ -1,3 +1,2 @@
--- Laws of the refusals of lengths and of one checker.
-pub mod Lengths
+-- Laws of the refusals of one checker.
 pub mod Tests

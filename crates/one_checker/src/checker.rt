@@ -1,31 +1,16 @@
-// What a bench does with one checker of its table, and with the lengths of what it is lent. An answer is 256 times the refusal and the bad checker's
-// number; 0 is no refusal.
-use config::refusal;
-use engine::step;
+// What a bench does with one checker of its table. An answer is 256 times the refusal and the bad checker's number; 0 is no refusal.
+use one_step::step;
+use open_words::refusal;
 use rules::Config;
-use rules::FRAME_WORDS;
 use trace::frame_at;
 ghost use mathlib.Core.Path.{_≡_};
-ghost use Prim.Native.Nat.{_*_, _<_};
+ghost use Prim.Native.Nat.{_<_};
 ghost use lib.Dec.{T};
 ghost use lib.ListN.{length, getD};
 ghost use Rattle.rules.specs.Config.{Good};
 ghost use Rattle.rules.specs.Possible.{possible};
 ghost use Rattle.trace.specs.Traces.{frames as framesOf};
-ghost use Rattle.one_checker.specs.One.{lengthsRefusal, tested, steppedWords, steppedRows};
-
-// The answer for the lengths of a table, of its frames, words and rows: refusal 9, then 5.
-pub fn lengths_answer(checkers: usize, frames: usize, words: usize, rows: usize) -> u32
-    ensures { λ r. ⌜ r ≡ 256 * lengthsRefusal checkers frames words rows ⌝ }
-{
-    if 64 < checkers {
-        return 256 * 9;
-    }
-    if !((frames == FRAME_WORDS * checkers) & ((words == checkers) & (rows == checkers))) {
-        return 256 * 5;
-    }
-    0
-}
+ghost use Rattle.one_checker.specs.One.{tested, steppedWords, steppedRows};
 
 // The answer so far, or, where that is no refusal, the answer for checker k.
 pub fn test_one(answer: u32, c: Config, words: &[u64], k: usize) -> u32

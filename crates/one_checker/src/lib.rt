@@ -1,6 +1,5 @@
 // One checker of a bench's table.
 mod checker;
 
-pub use checker::lengths_answer;
 pub use checker::step_one;
 pub use checker::test_one;

@@ -15,14 +15,15 @@ use Rattle.rules.specs.Possible.{possible, wordRefusal}
 use Rattle.trace.specs.Traces.{frames, traceFits}
 use Rattle.trace.specs.Runs.{keptAt}
 use Rattle.rules.specs.Rules.{marks}
-use Rattle.counts.specs.Counts.{marksIn, change}
-use Rattle.record.specs.Records.{recordFits, checkRefusal}
+use Rattle.halves.specs.Rows.{marksIn}
+use Rattle.counts.specs.Counts.{change}
+use Rattle.lengths.specs.Lengths.{recordFits, checkRefusal}
 use Rattle.resume.specs.Resumes.{Resumable, Resumed}
 use Rattle.recheck.specs.Rechecks.{recheckRefusal, Rechecked, RecheckAnswer}
-use Rattle.bus.proofs.Tests.{is-true, of-true, and-left, and-right}
-use Rattle.config.proofs.Refusals.{word-decides, not-refused}
-use Rattle.record.proofs.Refusals.{Accepted, check-accepted}
-use Rattle.counts.proofs.Counted.{marks-le}
+use Rattle.bits.proofs.Tests.{is-true, of-true, and-left, and-right}
+use Rattle.open_words.proofs.Refusals.{word-decides, not-refused}
+use Rattle.lengths.proofs.Refusals.{Accepted, check-accepted}
+use Rattle.halves.proofs.Counted.{marks-le}
 use Rattle.recheck.proofs.Demand.{sub-same, changes-same, demand-accepted, demand-met}
 
 -- the count that is 65,536 too high

@@ -1,18 +1,16 @@
--- Demand 3, and what the full check's loop gives. The words of the rules follow a trace's frames by the step, so the laws of runs apply to them: the
--- words that the loops make are those of the rules, and what a recheck writes makes the old trace's true record that of the edited one. The changes over
--- all rows are those over the rows written, since the others are as they were. Assumes nothing.
+-- Demand 3. The words of the rules follow a trace's frames by the step, so the laws of runs apply to them: what a recheck writes makes the old trace's true
+-- record that of the edited one. The changes over all rows are those over the rows written, since the others are as they were. Assumes nothing.
 use Prim.Native.Nat.{ℕ, zero, suc, _+_, _/_, _≤_, zero-le}
 use mathlib.Core.Path.{_≡_, refl, sym, ap, ap₂, _∙_}
 use mathlib.Core.Bool.{true, false}
 use mathlib.Core.List.{List}
 use mathlib.Core.Logic.{⊎-elim}
-use native.Mathlib.Nat.{le-refl}
 use native.Mathlib.Omega.{arith}
 use borrow.Author.Tests.{lt-ltb, le-ltb, ltb-true, ltb-false, le-leb, eq-eqb}
 use lib.Dec.{T, ltb}
 use lib.IntN.{ℤ, subℕ, pos, negsuc}
 use lib.ListN.{length}
-use Rattle.bus.proofs.Tests.{is-true, either}
+use Rattle.bits.proofs.Tests.{is-true, either}
 use Rattle.rules.specs.declared.config.Config.{Config}
 use Rattle.rules.specs.Config.{configRefusal, Good}
 use Rattle.rules.specs.Frame.{Trace}
@@ -22,38 +20,21 @@ use Rattle.rules.specs.Possible.{possible}
 use Rattle.rules.proofs.Claims.{step-is-rules}
 use Rattle.rules.proofs.Reached.{before-possible}
 use Rattle.trace.specs.Traces.{frames, frameAt, traceFits}
-use Rattle.trace.specs.Runs.{wordAt, keptAt, Written}
-use Rattle.counts.specs.Counts.{marksIn, change}
-use Rattle.record.specs.Records.{TrueRecord, recordFits}
+use Rattle.trace.specs.Runs.{keptAt, Written}
+use Rattle.halves.specs.Rows.{marksIn}
+use Rattle.counts.specs.Counts.{change}
+use Rattle.lengths.specs.Lengths.{recordFits}
+use Rattle.record.specs.Records.{TrueRecord}
 use Rattle.resume.specs.Resumes.{ownWord, ownRow}
 use Rattle.recheck.specs.Rechecks.{recheckRefusal, Rechecked, Edited, Demanded}
-use Rattle.trace.proofs.Runs.{run-steps, Follows, same-words, Edit, true-ends, true-entries}
-use Rattle.counts.proofs.Counted.{marks-same, marks-split}
+use Rattle.trace.proofs.Runs.{run-steps, Follows, Edit, true-ends, true-entries}
+use Rattle.halves.proofs.Counted.{marks-same, marks-split}
 
 -- ---- the words of the rules are a run
 
 rules-follow : (c : Config) → Good c → (tr : Trace) → Follows (stepWord c) tr 0 (wordBefore c tr)
 unfolding wordBefore
 rules-follow c good tr t _ = step-is-rules c good tr t .word-is
-
-pub run-is-rules : (c : Config) → Good c → (tr : Trace) (t : ℕ) → wordAt (stepWord c) tr 0 0 t ≡ wordBefore c tr t
-unfolding wordAt wordBefore
-run-is-rules c good tr t =
-    same-words (stepWord c) tr tr (wordAt (stepWord c) tr 0 0) (wordBefore c tr) 0 t (run-steps (stepWord c) tr 0 0) (rules-follow c good tr)
-    (λ s _ _. refl) refl t zero-le (le-refl t)
-
--- What the full check's loop writes is the trace's true record.
-pub check-done : (c : Config) → Good c → (trace rows words rows′ words′ : List ℕ) → length rows ≡ frames trace → length words ≡ frames trace
-    → Written (λ t. stepRow c (wordAt (stepWord c) (frameAt trace) 0 0 t) (frameAt trace t)) 0 (frames trace) rows rows′
-    → Written (λ t. wordAt (stepWord c) (frameAt trace) 0 0 (suc t)) 0 (frames trace) words words′ → TrueRecord c trace rows′ words′
-unfolding wordBefore
-check-done c good trace rows words rows′ words′ p q r w =
-    record {
-      rows-length = r .same-length ∙ p;
-      words-length = w .same-length ∙ q;
-      rows-are = λ t h. r .within t zero-le h ∙ rw (run-is-rules c good (frameAt trace) t) (sym (step-is-rules c good (frameAt trace) t .row-is));
-      words-are = λ t h. w .within t zero-le h ∙ run-is-rules c good (frameAt trace) (suc t);
-    }
 
 -- ---- changes
 

@@ -1,5 +1,5 @@
 -- The recheck and demand 3, from document 01, "What the viewer calls" and "The words of demand 3". Assumes nothing.
-use Prim.Native.Nat.{ℕ, suc, _+_, _≤_, _<_}
+use Prim.Native.Nat.{ℕ, suc, _≤_, _<_}
 use mathlib.Core.Path.{_≡_}
 use mathlib.Core.Bool.{_&&_, cond}
 use mathlib.Core.List.{List}
@@ -13,7 +13,8 @@ use Rattle.rules.specs.Possible.{possible}
 use Rattle.trace.specs.Traces.{frames, frameAt, traceFits}
 use Rattle.trace.specs.Runs.{keptAt, Ends, Written}
 use Rattle.counts.specs.Counts.{change}
-use Rattle.record.specs.Records.{TrueRecord, recordFits}
+use Rattle.lengths.specs.Lengths.{recordFits}
+use Rattle.record.specs.Records.{TrueRecord}
 use Rattle.resume.specs.Resumes.{ownWord, ownRow}
 
 -- refusals 1 to 7, in that order: "6: a above b, or b above N", "7: the word to go on from is not possible"

@@ -1,10 +1,10 @@
 // The recheck after an edit.
-use config::refusal;
-use counts::Tally;
-use record::lengths_refusal;
+use lengths::lengths_refusal;
+use open_words::refusal;
 use resume::resume;
 use rules::Config;
 use rules::MARKS;
+use tally::Tally;
 ghost use mathlib.Core.Path.{_≡_};
 ghost use Prim.Native.Nat.{ℕ, _≤_, _<_};
 ghost use lib.IntN.{pos, subℕ};

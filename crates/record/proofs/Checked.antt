@@ -15,8 +15,8 @@ use Rattle.trace.specs.Traces.{frameAt}
 use Rattle.trace.specs.Stretches.{Runnable, Ran}
 use Rattle.trace.proofs.Running.{ran-all}
 use Rattle.trace.proofs.Followed.{stretch-words, stretch-rows}
+use Rattle.lengths.proofs.Refusals.{Accepted, accepted-short}
 use Rattle.record.specs.Records.{TrueRecord}
-use Rattle.record.proofs.Refusals.{Accepted, accepted-short}
 
 -- the whole trace
 abbrev pub all : ℕ → Stretch

@@ -1,3 +1,3 @@
--- The refusals of a full check, and what its run leaves.
-pub mod Refusals
+-- The answers of a full check, and what its run leaves.
+pub mod Answers
 pub mod Checked

@@ -1,6 +1,6 @@
 // The full check.
-use super::lengths::lengths_refusal;
 use engine::run;
+use lengths::lengths_refusal;
 use rules::Config;
 use trace::Stretch;
 ghost use Rattle.record.specs.Records.{CheckAnswer};

@@ -1,6 +1,4 @@
-// A trace's record: the lengths that are due, and the full check.
+// A trace's record: the full check.
 mod check;
-mod lengths;
 
 pub use check::full_check;
-pub use lengths::lengths_refusal;

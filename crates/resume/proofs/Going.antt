@@ -3,7 +3,7 @@
 -- the same frames by the same step, and what it keeps is what the record kept. Its rows behind the end are as they were, so their marks are in the count
 -- before the block and in the count after it. Assumes nothing.
 use Prim.Native.Nat.{ℕ, zero, suc, _+_, _≤_, _<_}
-use mathlib.Core.Path.{_≡_, refl, sym, ap, subst, subst⁻¹, _∙_}
+use mathlib.Core.Path.{_≡_, sym, ap, _∙_}
 use mathlib.Core.Bool.{true, false}
 use mathlib.Core.List.{List}
 use mathlib.Core.Logic.{⊎-elim}
@@ -11,11 +11,11 @@ use native.Mathlib.Nat.{zero-add, le-refl, le-of-suc-le-suc, eq-or-lt-of-le}
 use native.Mathlib.Omega.{arith}
 use borrow.Author.Tests.{ltb-true, ltb-false, leb-true, leb-false}
 use lib.Dec.{T, ltb, leb}
-use lib.ListN.{length, getD}
-use Rattle.bus.proofs.Tests.{either}
+use lib.ListN.{getD}
+use Rattle.bits.proofs.Tests.{either}
 use Rattle.rules.specs.declared.config.Config.{Config}
 use Rattle.rules.specs.Rules.{marks}
-use Rattle.rules.specs.Step.{stepRow, stepWord}
+use Rattle.rules.specs.Step.{stepWord}
 use Rattle.rules.specs.Possible.{possible}
 use Rattle.trace.specs.declared.stretch.Stretch.{Stretch}
 use Rattle.trace.specs.declared.stretch.Reached.{Reached}
@@ -25,8 +25,8 @@ use Rattle.trace.specs.Stretches.{keptFrom, stretchWord, stretchRow, Runnable, 
 use Rattle.trace.proofs.Runs.{run-enters, run-steps, same-words}
 use Rattle.trace.proofs.Written.{written-none, written-on}
 use Rattle.trace.proofs.Running.{kept-enters, kept-steps}
-use Rattle.counts.specs.Counts.{marksIn}
-use Rattle.counts.proofs.Counted.{marks-none, marks-le, marks-same, marks-split}
+use Rattle.halves.specs.Rows.{marksIn}
+use Rattle.halves.proofs.Counted.{marks-none, marks-le, marks-same, marks-split}
 use Rattle.resume.specs.Resumes.{ownWord, ownRow, Resumable, Resumed}
 
 module _ (c : Config) (trace rows₀ words₀ : List ℕ) (a b : ℕ) where

@@ -11,7 +11,7 @@ use Rattle.rules.specs.Step.{stepRow, stepWord}
 use Rattle.rules.specs.Possible.{possible}
 use Rattle.trace.specs.Traces.{frames, frameAt}
 use Rattle.trace.specs.Runs.{wordAt, keptAt, Ends, Written}
-use Rattle.counts.specs.Counts.{marksIn}
+use Rattle.halves.specs.Rows.{marksIn}
 
 module _ (c : Config) (trace words : List ℕ) (a : ℕ) where
   -- the recheck's own word before cycle t: it "goes on from kept word a−1 (0 when a is 0), one step for each cycle of the lent trace from a on"

@@ -1,5 +1,4 @@
 // The run of a recheck, for input that was tested.
-mod block;
 mod run;
 
 pub use run::Run;

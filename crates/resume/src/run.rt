@@ -1,13 +1,11 @@
 // The run of a recheck.
-use super::block::block_end;
-use counts::Tally;
+use block_ends::block_end;
+use block_ends::goes_on;
 use counts::marks_in;
 use engine::run;
 use rules::Config;
+use tally::Tally;
 use trace::Stretch;
-ghost use mathlib.Core.Path.{_≡_};
-ghost use mathlib.Core.Bool.{true, false};
-ghost use Prim.Native.Nat.{_≤_};
 ghost use Rattle.resume.specs.Resumes.{Resumable, Resumed};
 
 // Where a run ended, and 65,536 more than each mark's change: so no count falls below 0 on the way.
@@ -53,14 +51,4 @@ pub fn resume(
         kept = reached.kept;
     }
     Run { end: t, tally }
-}
-
-// Whether a run goes on before cycle t: it is not yet at b, or its word is not the kept one.
-fn goes_on(t: usize, b: usize, own: u64, kept: u64) -> bool
-    ensures { λ r. ⌜ (r ≡ true → b ≤ t → own ≡ kept → ⊥) × (r ≡ false → (b ≤ t) × (own ≡ kept)) ⌝ }
-{
-    if t < b {
-        return true;
-    }
-    own != kept
 }

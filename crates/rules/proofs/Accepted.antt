@@ -8,7 +8,7 @@ use native.Mathlib.Nat.{not-suc-le-zero, eq-or-lt-of-le, le-of-suc-le-suc}
 use native.Mathlib.Numerals.{add-one}
 use lib.ListN.{length, getD, length-append, List·getD-append}
 use lib.Seq.{getD-at}
-use Rattle.bus.proofs.Tests.{some-ext}
+use Rattle.bits.proofs.Tests.{some-ext}
 use Rattle.rules.specs.Checks.{Checks, accept, acceptedBefore, accepted, busy}
 
 module _ (k : Checks) where

@@ -3,7 +3,7 @@ use mathlib.Core.List.{map}
 use Rattle.rules.specs.Frame.{up}
 use Rattle.rules.specs.Rules.{row, word, rowOf, marksOf, openOf}
 use mathlib.Core.Path.{_≡_, refl}
-use Rattle.bus.specs.Bits.{bit, some, every, number}
+use Rattle.bits.specs.Bits.{bit, some, every, number}
 use Rattle.bus.specs.Range.{width, wireOf, valueOf}
 use Rattle.rules.specs.Config.{family}
 use Rattle.rules.specs.Checks.{accept, acceptedBefore, accepted, busy, fails}

@@ -4,7 +4,7 @@ use mathlib.Core.Path.{_≡_, refl, ap}
 use mathlib.Core.Bool.{true, false}
 use mathlib.Core.Logic.{⊎-elim}
 use lib.Dec.{T}
-use Rattle.bus.proofs.Tests.{either}
+use Rattle.bits.proofs.Tests.{either}
 use Rattle.rules.specs.declared.config.Config.{Config}
 use Rattle.rules.specs.Config.{Family, family, Good}
 use Rattle.rules.specs.Config.Family.{sequence, time, transition, none}

@@ -6,7 +6,7 @@ use native.Mathlib.Omega.{arith}
 use borrow.Author.Tests.{le-leb, lt-leb}
 use lib.Dec.{T, leb, leb→le, eqb, eqb→eq, lit≤}
 use Rattle.bus.specs.Range.{width, within}
-use Rattle.bus.proofs.Tests.{and-left, and-right}
+use Rattle.bits.proofs.Tests.{and-left, and-right}
 use Rattle.rules.specs.declared.config.Config.{Config}
 use Rattle.rules.specs.Config.{Family, family, minEvents, maxEvents, minWindow, maxWindow, limitsOf, unused, widthsOf, widths, limits, ports, configRefusal, Good}
 use Rattle.rules.specs.Possible.{possibleOf, possible}

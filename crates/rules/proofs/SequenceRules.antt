@@ -12,9 +12,9 @@ use native.Mathlib.Nat.{add-zero, sub-zero, suc-sub-suc}
 use native.Mathlib.Omega.{arith}
 use lib.Dec.{T, ltb, eqb, ltb→lt, leb·zero, leb·suc-zero, leb·suc-suc}
 use borrow.Author.Tests.{lt-ltb, ltb-true, eq-eqb, ne-eqb, eqb-true, eqb-false}
-use Rattle.bus.specs.Bits.{bit, some, every, number}
-use Rattle.bus.proofs.Tests.{either, iff-eq, and-left, some-elim, some-intro, some-none, some-ext}
-use Rattle.bus.proofs.Bits.{number-ext, bit-number, bit-holds, number-some, number-none}
+use Rattle.bits.specs.Bits.{bit, some, every, number}
+use Rattle.bits.proofs.Tests.{either, iff-eq, and-left, some-elim, some-intro, some-none, some-ext}
+use Rattle.bits.proofs.Bits.{number-ext, bit-number, bit-holds, number-some, number-none}
 use Rattle.rules.specs.declared.config.Config.{Config}
 use Rattle.rules.specs.Config.{family}
 use Rattle.rules.specs.Config.Family.{sequence}

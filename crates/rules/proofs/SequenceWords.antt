@@ -14,11 +14,11 @@ use lib.Count.{ones, ones-step}
 use lib.Dec.{T, leb, ltb, eqb, lit<, lt→ltb, ltb→lt, le→leb, leb→le}
 use lib.Pow.{pow-pos, shr-le}
 use borrow.Author.Tests.{lt-ltb, le-ltb, eqb-true}
-use Rattle.bus.specs.Bits.{toBit, bit, number}
+use Rattle.bits.specs.Bits.{toBit, bit, number}
 use Rattle.bus.specs.Range.{width, within}
-use Rattle.bus.proofs.Tests.{either, of-true, and-left, and-right, and-intro, or-right}
-use Rattle.bus.proofs.Bits.{number-lt, number-is, bit-number, bit-holds, bit-shr, bit-digit}
-use Rattle.bus.proofs.Ones.{ones-mono, ones-one}
+use Rattle.bits.proofs.Tests.{either, of-true, and-left, and-right, and-intro, or-right}
+use Rattle.bits.proofs.Bits.{number-lt, number-is, bit-number, bit-holds, bit-shr, bit-digit}
+use Rattle.bits.proofs.Ones.{ones-mono, ones-one}
 use Rattle.bus.proofs.Wires.{wiresFor, value-wires, wires-small}
 use Rattle.rules.specs.declared.config.Config.{Config}
 use Rattle.rules.specs.declared.frame.Frame.{Frame}

@@ -10,8 +10,8 @@ use native.Mathlib.Nat.{eq-or-lt-of-le, le-of-suc-le-suc, not-suc-le-zero, le-re
 use native.Mathlib.Omega.{arith}
 use lib.Dec.{T, leb, ltb, eqb, leb→le, le→leb, ltb→lt, lt→ltb, eqb→eq}
 use borrow.Author.Tests.{lt-ltb, lt-leb, le-leb, eq-eqb}
-use Rattle.bus.specs.Bits.{some, every}
-use Rattle.bus.proofs.Tests.{is-true, of-true, of-false, iff-eq, and-intro, and-left, and-right, or-left, some-intro, some-elim, every-intro}
+use Rattle.bits.specs.Bits.{some, every}
+use Rattle.bits.proofs.Tests.{is-true, of-true, of-false, iff-eq, and-intro, and-left, and-right, or-left, some-intro, some-elim, every-intro}
 use Rattle.rules.specs.declared.config.Config.{Config}
 use Rattle.rules.specs.Config.{family}
 use Rattle.rules.specs.Config.Family.{time}

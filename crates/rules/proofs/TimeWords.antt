@@ -6,9 +6,9 @@ use mathlib.Core.Bool.{Bool, true, false, not, _&&_, _||_, cond}
 use native.Mathlib.Omega.{arith}
 use native.Mathlib.Nat.{le-refl}
 use lib.Dec.{T, eqb, leb→le, le→leb, lit<, eqb·suc-zero}
-use Rattle.bus.specs.Bits.{bit, toBit}
+use Rattle.bits.specs.Bits.{bit, toBit}
 use Rattle.bus.specs.Range.{width, within}
-use Rattle.bus.proofs.Bits.{toBit-lt, eqb-toBit}
+use Rattle.bits.proofs.Bits.{toBit-lt, eqb-toBit}
 use Rattle.bus.proofs.Wires.{wiresFor, wires-small, value-wires}
 use Rattle.rules.specs.declared.config.Config.{Config}
 use Rattle.rules.specs.Config.{family, maxWindow}

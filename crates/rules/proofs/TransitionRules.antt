@@ -6,8 +6,8 @@ use mathlib.Core.Bool.{Bool, true, false, not, _&&_, cond, and-true, and-false}
 use native.Mathlib.Omega.{arith}
 use lib.Dec.{ltb, eqb}
 use borrow.Author.Tests.{lt-ltb, eq-eqb, ne-eqb}
-use Rattle.bus.specs.Bits.{some}
-use Rattle.bus.proofs.Tests.{some-none}
+use Rattle.bits.specs.Bits.{some}
+use Rattle.bits.proofs.Tests.{some-none}
 use Rattle.rules.specs.declared.config.Config.{Config}
 use Rattle.rules.specs.Config.{family}
 use Rattle.rules.specs.Config.Family.{transition}

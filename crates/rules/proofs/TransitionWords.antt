@@ -6,9 +6,9 @@ use mathlib.Core.Bool.{Bool, true, false, _&&_, cond}
 use mathlib.Core.Logic.{⊎-elim}
 use native.Mathlib.Omega.{arith}
 use lib.Dec.{T, leb, ltb, eqb, leb→le, le→leb, lt→ltb, ltb→lt, eqb→eq, lit<}
-use Rattle.bus.specs.Bits.{bit}
+use Rattle.bits.specs.Bits.{bit}
 use Rattle.bus.specs.Range.{width, within}
-use Rattle.bus.proofs.Tests.{and-intro, and-left, and-right, or-right, or-cases}
+use Rattle.bits.proofs.Tests.{and-intro, and-left, and-right, or-right, or-cases}
 use Rattle.bus.proofs.Wires.{wiresFor, wires-small, value-wires, value-lt, value-zero}
 use Rattle.rules.specs.declared.config.Config.{Config}
 use Rattle.rules.specs.Config.{family}

@@ -5,7 +5,7 @@ use Prim.Native.Nat.{ℕ, zero, suc}
 use mathlib.Core.Bool.{Bool, false, not, _&&_}
 use mathlib.Core.List.{List, [], _∷_, _++_}
 use lib.ListN.{getD}
-use Rattle.bus.specs.Bits.{some}
+use Rattle.bits.specs.Bits.{some}
 
 pub record Checks : Type 0 where
   -- cycle s starts a check

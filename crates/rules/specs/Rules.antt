@@ -2,7 +2,7 @@
 use Prim.Native.Nat.{ℕ, zero, suc, _+_, _*_}
 use mathlib.Core.Bool.{Bool, false, cond}
 use lib.Dec.{eqb}
-use Rattle.bus.specs.Bits.{toBit}
+use Rattle.bits.specs.Bits.{toBit}
 use Rattle.rules.specs.declared.config.Config.{Config}
 use Rattle.rules.specs.Config.{Family, family}
 use Rattle.rules.specs.Config.Family.{sequence, time, transition, none}

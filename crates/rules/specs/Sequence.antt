@@ -2,7 +2,7 @@
 use Prim.Native.Nat.{ℕ, suc, _+_, _-_}
 use mathlib.Core.Bool.{Bool, not, _&&_, _||_}
 use lib.Dec.{leb, ltb, eqb}
-use Rattle.bus.specs.Bits.{bit, some, every, number}
+use Rattle.bits.specs.Bits.{bit, some, every, number}
 use Rattle.rules.specs.declared.config.Config.{Config}
 use Rattle.rules.specs.Frame.{Trace, up, P}
 use Rattle.rules.specs.Checks.{Checks, accepted}

@@ -2,7 +2,7 @@
 use Prim.Native.Nat.{ℕ, zero, suc, _+_, _-_}
 use mathlib.Core.Bool.{Bool, not, _&&_, _||_, cond}
 use lib.Dec.{leb, ltb, eqb}
-use Rattle.bus.specs.Bits.{some, every}
+use Rattle.bits.specs.Bits.{some, every}
 use Rattle.rules.specs.declared.config.Config.{Config}
 use Rattle.rules.specs.Frame.{Trace, up, P, Q}
 use Rattle.rules.specs.Checks.{Checks, accepted, busy}

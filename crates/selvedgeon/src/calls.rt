@@ -1,14 +1,15 @@
 // The calls on a whole trace, for the C host.
-use super::numbered::config_of;
-use lent_answers::recheck_into;
-use lent_answers::totals_into;
-use packed::packed_failures;
+use lent_changes::recheck_into;
+use lent_totals::totals_into;
+use numbered::config_of;
+use packed_list::packed_failures;
 use record::full_check;
 ghost use Prim.Native.Nat.{_/_, _%_};
 ghost use Rattle.record.specs.Records.{CheckAnswer};
 ghost use Rattle.failures.specs.Answers.{ListAnswer};
-ghost use Rattle.lent_answers.specs.Answers.{HostRecheck, HostTotals};
-ghost use Rattle.selvedgeon.specs.Numbered.{configOf};
+ghost use Rattle.lent_totals.specs.Answers.{HostTotals};
+ghost use Rattle.lent_changes.specs.Answers.{HostRecheck};
+ghost use Rattle.numbered.specs.Numbered.{configOf};
 
 // The full check: fills N rows and N open words. Answers the refusal number or 0; refused: both are as they were. Refusals 1 to 5.
 #[no_mangle]

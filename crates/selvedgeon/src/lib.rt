@@ -1,6 +1,5 @@
 // What the C host calls: the proved calls, on numbers and lent slices.
 mod calls;
-mod numbered;
 mod numbers;
 mod step;
 mod table;

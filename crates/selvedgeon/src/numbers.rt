@@ -1,12 +1,12 @@
 // The calls that answer one number, for the C host.
-use super::numbered::config_of;
+use numbered::config_of;
 use packed::packed_first_failure;
 use packed::packed_open_count;
 ghost use Prim.Native.Nat.{_/_, _%_};
 ghost use lib.Dec.{eqb};
 ghost use Rattle.checker.specs.Calls.{CountAnswer};
 ghost use Rattle.first_failure.specs.Search.{SearchAnswer};
-ghost use Rattle.selvedgeon.specs.Numbered.{configOf};
+ghost use Rattle.numbered.specs.Numbered.{configOf};
 
 // How many checks an open word says are unfinished. Answers 256 times the refusal and the count. Refusals 1, 2, 3 and 7.
 #[no_mangle]

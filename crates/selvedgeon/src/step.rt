@@ -1,10 +1,10 @@
 // One step for the C host.
-use super::numbered::config_of;
 use byte_step::step_bytes;
+use numbered::config_of;
 use rules::Frame;
 ghost use mathlib.Core.List.{[], _∷_};
 ghost use Rattle.byte_step.specs.Step.{ByteStep};
-ghost use Rattle.selvedgeon.specs.Numbered.{configOf};
+ghost use Rattle.numbered.specs.Numbered.{configOf};
 
 // One step of the checker on the frame of the four samples. The open word is in the eight lent bytes, least significant first: the next word is written
 // there. Answers 256 times the refusal number plus the row. Refusals 1, 2 and 3, then 5 for a slice that is not 8 bytes long, then 7; refused: the bytes

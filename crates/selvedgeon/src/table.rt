@@ -1,7 +1,7 @@
 // The bench step over a lent table of configurations.
 use bench::step_all;
 use bench::test_all;
-use one_checker::lengths_answer;
+use bench_lengths::lengths_answer;
 use rules::Config;
 ghost use Rattle.bench.specs.Bench.{BenchAnswer};
 

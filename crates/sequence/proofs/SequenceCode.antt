@@ -7,9 +7,9 @@ use native.Mathlib.Omega.{arith}
 use lib.Dec.{T, eqb, leb, ltb, ltb→lt}
 use lib.Count.{ones}
 use borrow.Author.Tests.{ne-eqb}
-use Rattle.bus.specs.Bits.{toBit, bit, some, number}
-use Rattle.bus.proofs.Tests.{and-left, some-ext}
-use Rattle.bus.proofs.Bits.{toBit-lt, eqb-toBit, bit-number, number-ext, bit-double, bit-low, bit-zero}
+use Rattle.bits.specs.Bits.{toBit, bit, some, number}
+use Rattle.bits.proofs.Tests.{and-left, some-ext}
+use Rattle.bits.proofs.Bits.{toBit-lt, eqb-toBit, bit-number, number-ext, bit-double, bit-low, bit-zero}
 use Rattle.rules.specs.declared.config.Config.{Config}
 use Rattle.rules.specs.declared.frame.Frame.{Frame}
 use Rattle.rules.specs.Config.{family, minEvents, maxEvents, Good}

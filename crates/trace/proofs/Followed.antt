@@ -1,5 +1,5 @@
 -- A run that enters its stretch with the rules' word has the rules' rows and words. Assumes nothing.
-use Prim.Native.Nat.{ℕ, suc, _+_, _≤_, zero-le}
+use Prim.Native.Nat.{ℕ, _+_, _≤_, zero-le}
 use mathlib.Core.Path.{_≡_, refl, sym, ap, _∙_}
 use mathlib.Core.List.{List}
 use native.Mathlib.Nat.{add-suc, le-refl}

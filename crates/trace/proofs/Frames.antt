@@ -1,11 +1,10 @@
 -- Words cut from a trace, one by one. Assumes nothing.
-use Prim.Native.Nat.{ℕ, zero, suc, _+_, _*_, _<_}
+use Prim.Native.Nat.{ℕ, zero, suc, _+_, _<_}
 use mathlib.Core.Path.{_≡_, refl, ap, _∙_}
 use mathlib.Core.List.{List}
 use native.Mathlib.Omega.{arith}
 use lib.ListN.{length, getD}
-use Rattle.rules.specs.Frame.{frameWords, sample}
-use Rattle.trace.specs.Traces.{cut, frameAt}
+use Rattle.trace.specs.Traces.{cut}
 
 pub cut-length : (k : ℕ) (l : List ℕ) (at : ℕ) → length (cut k l at) ≡ k
 unfolding cut

@@ -9,8 +9,8 @@ use native.Mathlib.Nat.{le-refl, le-step, eq-or-lt-of-le, le-of-suc-le-suc}
 use native.Mathlib.Omega.{arith}
 use borrow.Author.Tests.{lt-ltb, le-ltb}
 use lib.Dec.{T}
-use lib.ListN.{length, getD, set}
-use Rattle.bus.proofs.Tests.{of-true, of-false}
+use lib.ListN.{getD, set}
+use Rattle.bits.proofs.Tests.{of-true, of-false}
 use Rattle.rules.specs.declared.config.Config.{Config}
 use Rattle.rules.specs.declared.frame.Frame.{Frame}
 use Rattle.rules.specs.Step.{stepRow, stepWord, Steps}

@@ -11,7 +11,7 @@ use native.Mathlib.Omega.{arith}
 use borrow.Author.Tests.{lt-ltb, le-ltb, ltb-true, ltb-false}
 use lib.Dec.{ltb}
 use lib.ListN.{getD}
-use Rattle.bus.proofs.Tests.{either}
+use Rattle.bits.proofs.Tests.{either}
 use Rattle.trace.specs.Runs.{wordAt, Ends, Written}
 
 module _ {F : Type 0} (next : ℕ → F → ℕ) where

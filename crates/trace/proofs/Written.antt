@@ -10,7 +10,7 @@ use borrow.Author.Tests.{ltb-true, ltb-false}
 use lib.Dec.{ltb}
 use lib.ListN.{length, getD, set, length-set}
 use lib.Seq.{getD-set-same, getD-set-other}
-use Rattle.bus.proofs.Tests.{either}
+use Rattle.bits.proofs.Tests.{either}
 use Rattle.trace.specs.Runs.{Written}
 
 pub written-none : (f : ℕ → ℕ) (a : ℕ) (l : List ℕ) → Written f a a l l

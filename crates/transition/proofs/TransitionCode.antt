@@ -7,7 +7,7 @@ use native.Mathlib.Omega.{arith}
 use lib.Dec.{T, eqb, leb, ltb, leb→le, eqb→eq}
 use borrow.Author.Tests.{lt-ltb, eq-eqb, ne-eqb}
 use Rattle.bus.specs.Range.{width}
-use Rattle.bus.proofs.Tests.{of-true, iff-eq, and-left, or-cases}
+use Rattle.bits.proofs.Tests.{of-true, iff-eq, and-left, or-cases}
 use Rattle.rules.specs.declared.config.Config.{Config}
 use Rattle.rules.specs.declared.frame.Frame.{Frame}
 use Rattle.rules.specs.Config.{family}

@@ -150,6 +150,37 @@ fn states(line: &[u8], test: &[u32], start: &[u32], next: &[u32]) {
     report::spaced_numbers(next);
 }
 
+// Five cycles of a transition checker out of reset.
+fn five_states(test: [u32; 5], start: [u32; 5], next: [u32; 5]) -> [u32; 20] {
+    [
+        1,
+        test[0],
+        start[0],
+        next[0],
+        1,
+        test[1],
+        start[1],
+        next[1],
+        1,
+        test[2],
+        start[2],
+        next[2],
+        1,
+        test[3],
+        start[3],
+        next[3],
+        1,
+        test[4],
+        start[4],
+        next[4],
+    ]
+}
+
+// Two cycles of a transition checker out of reset.
+fn two_states(test: [u32; 2], start: [u32; 2], next: [u32; 2]) -> [u32; 8] {
+    [1, test[0], start[0], next[0], 1, test[1], start[1], next[1]]
+}
+
 pub fn transitions() {
     let c = Config {
         kind: 6,
@@ -162,35 +193,14 @@ pub fn transitions() {
     let s = [3u32; 5];
     let n = [4, 4, 0, 4, 4];
     states(b"K | 6, all [2:0] | test", &t, &s, &n);
-    let trace = [
-        1,
-        t[0],
-        s[0],
-        n[0],
-        1,
-        t[1],
-        s[1],
-        n[1],
-        1,
-        t[2],
-        s[2],
-        n[2],
-        1,
-        t[3],
-        s[3],
-        n[3],
-        1,
-        t[4],
-        s[4],
-        n[4],
-    ];
+    let trace = five_states(t, s, n);
     let mut rows = [0u32; 5];
     let mut words = [0u64; 5];
     end(c, &trace, &mut rows, &mut words);
     let t = [3u32; 2];
     let n = [4u32; 2];
     states(b"L | 6, all [2:0] | test", &t, &t, &n);
-    let trace = [1, t[0], t[0], n[0], 1, t[1], t[1], n[1]];
+    let trace = two_states(t, t, n);
     let mut rows = [0u32; 2];
     let mut words = [0u64; 2];
     end(c, &trace, &mut rows, &mut words);

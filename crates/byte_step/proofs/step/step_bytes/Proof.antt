@@ -4,7 +4,7 @@ use mathlib.Core.Path.{sym, _∙_}
 use native.Mathlib.Omega.{arith}
 use Rattle.rules.specs.Config.{Good}
 use Rattle.rules.proofs.Good.{refusal-low}
-use Rattle.config.proofs.Refusals.{word-refusal-low}
+use Rattle.open_words.proofs.Refusals.{word-refusal-low}
 use Rattle.byte_step.proofs.ByteSteps.{config-refused, length-refused, word-refused, taken}
 use borrow.Author.Needs.{needs}
 use Rattle.byte_step.proofs.step.step_bytes.Statement.{statement}

@@ -6,9 +6,10 @@ use mathlib.Core.Path.{_≡_, sym, ap, _∙_}
 use native.Mathlib.Omega.{arith}
 use borrow.Author.Needs.{needs}
 use lib.ListN.{getD}
-use Rattle.bus.specs.Bits.{toBit, bit}
-use Rattle.counts.specs.Counts.{AreMarks, marksIn}
-use Rattle.counts.proofs.Counted.{marks-le, marks-none, count-more, marks-split}
+use Rattle.bits.specs.Bits.{toBit, bit}
+use Rattle.halves.specs.Rows.{marksIn}
+use Rattle.halves.proofs.Counted.{marks-le, marks-none, count-more, marks-split}
+use Rattle.counts.specs.Counts.{AreMarks}
 use Rattle.counts.proofs.rows.marks_in.Statement.{statement}
 use Rattle.counts.proofs.rows.marks_in.Tie as tie
 

@@ -4,7 +4,7 @@ use mathlib.Core.Path.{_≡_, refl}
 use mathlib.Core.Bool.{Bool, true, false}
 use lib.Dec.{lit≤}
 use mir.Val.{boolByte}
-use Rattle.bus.specs.Bits.{toBit}
+use Rattle.bits.specs.Bits.{toBit}
 use borrow.Author.Needs.{needs}
 use Rattle.cycle.proofs.marks.to_bit.Statement.{statement}
 use Rattle.cycle.proofs.marks.to_bit.Tie as tie

@@ -4,7 +4,7 @@ use mathlib.Core.Path.{ap, sym}
 use native.Mathlib.Nat.{div-one}
 use lib.Dec.{eqb}
 use lib.ListN.{getD}
-use Rattle.bus.specs.Bits.{bit}
+use Rattle.bits.specs.Bits.{bit}
 use Rattle.rules.specs.Frame.{up}
 use borrow.Author.Needs.{needs}
 use Rattle.cycle.proofs.reset.out_of_reset.Statement.{statement}

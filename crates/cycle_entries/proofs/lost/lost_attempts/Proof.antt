@@ -3,7 +3,7 @@
 use Prim.Native.Nat.{_-_}
 use native.Mathlib.Omega.{arith}
 use borrow.Author.Tests.{eq-eqb, ne-eqb}
-use Rattle.bus.proofs.Bits.{shifted-one}
+use Rattle.bits.proofs.Bits.{shifted-one}
 use Rattle.sequence.proofs.SequenceCode.{fits}
 use Rattle.cycle_entries.proofs.LostWord.{lost-all, lost-oldest}
 use Rattle.cycle_entries.proofs.lost.lost_attempts.Statement.{statement}

@@ -2,7 +2,7 @@
 use Prim.Native.Nat.{_<_}
 use native.Mathlib.Omega.{arith}
 use lib.Pow.{pow-pos}
-use Rattle.bus.proofs.Bits.{shifted-one}
+use Rattle.bits.proofs.Bits.{shifted-one}
 use Rattle.listed.proofs.Highest.{highest}
 use Rattle.entries.proofs.Stored.{stored-length}
 use Rattle.entries.proofs.Writing.{Writing, writing-none, writing-all, top, top-young, room, writing-more}

@@ -8,8 +8,8 @@ use native.Mathlib.Nat.{lt-of-lt-of-le}
 use native.Mathlib.Numerals.{add-one}
 use native.Mathlib.Omega.{arith}
 use lib.Pow.{pow-mono}
-use Rattle.bus.specs.Bits.{number}
-use Rattle.bus.proofs.Bits.{number-lt}
+use Rattle.bits.specs.Bits.{number}
+use Rattle.bits.proofs.Bits.{number-lt}
 use Rattle.marked.specs.Picks.{marked}
 use Rattle.marked.proofs.Places.{marks-more, marks-same, marked-true, marked-false}
 use Rattle.marked.proofs.pick.marks_of.Statement.{statement}

@@ -3,7 +3,7 @@ use Prim.Native.Nat.{_+_, _-_, _<_}
 use native.Mathlib.Numerals.{add-one}
 use native.Mathlib.Omega.{arith}
 use lib.Pow.{pow-pos}
-use Rattle.bus.proofs.Bits.{shifted-one}
+use Rattle.bits.proofs.Bits.{shifted-one}
 use Rattle.listed.proofs.Highest.{highest}
 use Rattle.marked.specs.Picks.{blockCycles}
 use Rattle.marked.proofs.Places.{Storing, storing-none, storing-all, top, top-low, storing-room, storing-more}

@@ -5,7 +5,7 @@ use native.Mathlib.Omega.{arith}
 use denote.Ref.{now}
 use lib.ListN.{getD}
 use Rattle.one_checker.proofs.Tests.{tested-kept, tested-good, tested-bad}
-use Rattle.config.proofs.Refusals.{word-refusal-low}
+use Rattle.open_words.proofs.Refusals.{word-refusal-low}
 use borrow.Author.Needs.{needs}
 use Rattle.one_checker.proofs.checker.test_one.Statement.{statement}
 use Rattle.one_checker.proofs.checker.test_one.Tie as tie

@@ -1,9 +1,9 @@
 -- `packed::count::packed_open_count` meets its contract: the open count's, with the two numbers packed. Assumes nothing.
 use Prim.Native.Nat.{_≤_}
 use native.Mathlib.Omega.{arith}
-use Rattle.bus.proofs.Packed.{unpacked}
+use Rattle.bits.proofs.Packed.{unpacked}
 use Rattle.checker.specs.Calls.{CountAnswer}
-use Rattle.config.proofs.Refusals.{word-refusal-low}
+use Rattle.open_words.proofs.Refusals.{word-refusal-low}
 use Rattle.packed.proofs.Counts.{count-low}
 use borrow.Author.Needs.{needs}
 use Rattle.packed.proofs.count.packed_open_count.Statement.{statement}

@@ -1,7 +1,8 @@
 -- `record::check::full_check` meets its contract: what is not refused is a stretch that `run` takes, and a refusal comes before any store. Assumes nothing.
 use mathlib.Core.Path.{refl, sym, _∙_}
 use denote.Ref.{now}
-use Rattle.record.proofs.Refusals.{check-accepted, not-checked, checked}
+use Rattle.lengths.proofs.Refusals.{check-accepted}
+use Rattle.record.proofs.Answers.{not-checked, checked}
 use Rattle.record.proofs.Checked.{runnable, filled}
 use borrow.Author.Needs.{needs}
 use Rattle.record.proofs.check.full_check.Statement.{statement}

@@ -5,7 +5,7 @@ use mathlib.Core.Path.{_≡_, subst}
 use mathlib.Core.Logic.{⊎-elim}
 use native.Mathlib.Omega.{arith}
 use lib.ListN.{length}
-use Rattle.bus.proofs.Tests.{bound-true, bound-rest, bound-false}
+use Rattle.bits.proofs.Tests.{bound-true, bound-rest, bound-false}
 use Rattle.trace.specs.Traces.{frames}
 use Rattle.resume.proofs.Going.{Going, going-none, runnable, further, moved-low, moved-high, going-more, going-done}
 use Rattle.resume.proofs.run.resume.Statement.{statement}

@@ -53,10 +53,10 @@ use Rattle.bench.proofs.Answers.{lengthsOf, unfit-answer, test-asks, bad-answer
 use Rattle.bench.proofs.Elements.{tableTy, holds, empty}
 use Rattle.bench.proofs.Again.{at, LentAgain, lends-again, comes-back}
 use Rattle.bench.proofs.Shared.{Kept, lends-shared, ends-shared}
-use Rattle.one_checker.proofs.lengths_answer as lengths-answer
-use Rattle.one_checker.proofs.lengths_answer.Symbol as lengths-answer-def
-use Rattle.one_checker.proofs.lengths_answer.Symbol.{name as #one-checker·checker·lengths-answer}
-use Rattle.one_checker.proofs.lengths_answer.Met as lengths-answer-thm
+use Rattle.bench_lengths.proofs.lengths_answer as lengths-answer
+use Rattle.bench_lengths.proofs.lengths_answer.Symbol as lengths-answer-def
+use Rattle.bench_lengths.proofs.lengths_answer.Symbol.{name as #bench-lengths·answer·lengths-answer}
+use Rattle.bench_lengths.proofs.lengths_answer.Met as lengths-answer-thm
 use Rattle.bench.proofs.test_all as test-all
 use Rattle.bench.proofs.test_all.Symbol as test-all-def
 use Rattle.bench.proofs.test_all.Symbol.{name as #bench·table·test-all}
@@ -247,7 +247,7 @@ module _ {M : Type 1} (𝓤 : URA M) (H : Heap 𝓤) (A : Atoms 𝓤) (W : Given
       owned ! u32 (Is u32) (uint-makes 𝓤 H A W w32) a _ (refl, fits) $ done !
 
   module _ (rt : Room C.the-row (length (now t))) (rf : Room u32 (length (now f))) (rw : Room u64 (length (now w))) (rr : Room u32 (length (now r))) (𝓣 : Tables 𝓤 H)
-      (known-lengths : Triple 𝓤 (𝓣 .C #one-checker·checker·lengths-answer) (LengthsAnswer 𝓤 H A mem run)) (known-test : Triple 𝓤 (𝓣 .C #bench·table·test-all) (TestAll 𝓤 H A mem run)) (known-step : Triple 𝓤 (𝓣 .C #bench·table·step-all) (StepAll 𝓤 H A mem run)) where
+      (known-lengths : Triple 𝓤 (𝓣 .C #bench-lengths·answer·lengths-answer) (LengthsAnswer 𝓤 H A mem run)) (known-test : Triple 𝓤 (𝓣 .C #bench·table·test-all) (TestAll 𝓤 H A mem run)) (known-step : Triple 𝓤 (𝓣 .C #bench·table·step-all) (StepAll 𝓤 H A mem run)) where
     module _ (l₀ l₁ l₂ l₃ l₄ l₅ l₆ l₇ l₈ l₉ l₁₀ l₁₁ l₁₂ l₁₃ l₁₄ l₁₅ l₁₆ l₁₇ l₁₈ : ℕ) where
       abbrev En : Env 𝓤 H
       En = (tyInt w32, l₀) ∷ ((tableTy (named 0)), l₁) ∷ (framesTy, l₂) ∷ (wordsTy (named 2), l₃) ∷ (rowsTy (named 3), l₄) ∷ (tyInt w32, l₅) ∷ (tyInt w32, l₆) ∷ (tyInt w64, l₇) ∷ (tyInt w64, l₈) ∷ (tyInt w64, l₉) ∷ (tyInt w64, l₁₀) ∷ (tyBool, l₁₁)
@@ -389,7 +389,7 @@ module _ {M : Type 1} (𝓤 : URA M) (H : Heap 𝓤) (A : Atoms 𝓤) (W : Given
         move ! (7 ∷ 3 ∷ 6 ∷ 2 ∷ 5 ∷ 1 ∷ 4 ∷ 0 ∷ []) $ measures l₀ l₁ l₂ l₃ l₄ l₅ l₆ l₇ l₈ l₉ l₁₀ l₁₁ l₁₂ l₁₃ l₁₄ l₁₅ l₁₆ l₁₇ l₁₈)))))))))))))))))))
 
 module _ {M : Type 1} (𝓤 : URA M) (H : Heap 𝓤) (A : Atoms 𝓤) (W : Given 𝓤 H A) (mem : Memory → SProp 𝓤) (run : Routine → Fun 𝓤) (𝓣 : Tables 𝓤 H)
-    (known-lengths : Triple 𝓤 (𝓣 .C #one-checker·checker·lengths-answer) (LengthsAnswer 𝓤 H A mem run)) (known-test : Triple 𝓤 (𝓣 .C #bench·table·test-all) (TestAll 𝓤 H A mem run)) (known-step : Triple 𝓤 (𝓣 .C #bench·table·step-all) (StepAll 𝓤 H A mem run)) where
+    (known-lengths : Triple 𝓤 (𝓣 .C #bench-lengths·answer·lengths-answer) (LengthsAnswer 𝓤 H A mem run)) (known-test : Triple 𝓤 (𝓣 .C #bench·table·test-all) (TestAll 𝓤 H A mem run)) (known-step : Triple 𝓤 (𝓣 .C #bench·table·step-all) (StepAll 𝓤 H A mem run)) where
   bench-walks : Walks 𝓤 H A bench.ended stayed (WpFn 𝓤 H (𝓣 .C) (𝓣 .Λ) code.function) (bench.clauses 𝓤 H A mem run)
   bench-walks = walked 𝓤 H A bench.ended stayed (bench.clauses 𝓤 H A mem run) (WpFn 𝓤 H (𝓣 .C) (𝓣 .Λ) code.function)
       (λ κs. (slice-vals, (slice-vals, (slice-vals, (slice-vals, tt)))))
@@ -409,6 +409,6 @@ selvedgeon-bench-spec 𝓤 H 𝓜 𝓖 𝓡 =
     entered 𝓤 H (tripleOf 𝓤 H (𝓖 .A) bench.signature (bench.spec 𝓤 H (𝓖 .A) (𝓜 .mem) (𝓡 .run)))
     (tables 𝓤 H 𝓜 𝓡 code.env .C) (tables 𝓤 H 𝓜 𝓡 code.env .Λ) #selvedgeon·table·selvedgeon-bench code.function (code.unfolded 𝓤 H 𝓜 𝓡)
     (bench-meets 𝓤 H (𝓖 .A) (givenOf 𝓤 H 𝓜 𝓖) (𝓜 .mem) (𝓡 .run) (tablesOf 𝓤 H 𝓜 (tables 𝓤 H 𝓜 𝓡 code.env))
-    (cited 𝓤 H (LengthsAnswer 𝓤 H (𝓖 .A) (𝓜 .mem) (𝓡 .run)) 𝓜 𝓡 code.env #one-checker·checker·lengths-answer lengths-answer-def.routine code.calls-one-checker·lengths-answer (lengths-answer-thm.met 𝓤 H 𝓜 𝓖 𝓡))
+    (cited 𝓤 H (LengthsAnswer 𝓤 H (𝓖 .A) (𝓜 .mem) (𝓡 .run)) 𝓜 𝓡 code.env #bench-lengths·answer·lengths-answer lengths-answer-def.routine code.calls-bench-lengths·lengths-answer (lengths-answer-thm.met 𝓤 H 𝓜 𝓖 𝓡))
     (cited 𝓤 H (TestAll 𝓤 H (𝓖 .A) (𝓜 .mem) (𝓡 .run)) 𝓜 𝓡 code.env #bench·table·test-all test-all-def.routine code.calls-bench·test-all (test-all-thm.met 𝓤 H 𝓜 𝓖 𝓡))
     (cited 𝓤 H (StepAll 𝓤 H (𝓖 .A) (𝓜 .mem) (𝓡 .run)) 𝓜 𝓡 code.env #bench·table·step-all step-all-def.routine code.calls-bench·step-all (step-all-thm.met 𝓤 H 𝓜 𝓖 𝓡)))

@@ -1,8 +1,8 @@
 -- `sequence::step::advanced` meets its contract: the mask leaves the n − 1 lowest bits that both words have. Assumes nothing.
 use Prim.Native.Nat.{_+_, _-_, _*_}
 use borrow.Author.Needs.{needs}
-use Rattle.bus.specs.Bits.{toBit}
-use Rattle.bus.proofs.Bits.{and-low}
+use Rattle.bits.specs.Bits.{toBit}
+use Rattle.bits.proofs.Bits.{and-low}
 use Rattle.sequence.proofs.step.advanced.Statement.{statement}
 use Rattle.sequence.proofs.step.advanced.Tie as tie
 

@@ -3,7 +3,7 @@
 use Prim.Native.Nat.{ℕ, _-_}
 use mathlib.Core.Path.{ap, _∙_}
 use borrow.Author.Needs.{needs}
-use Rattle.bus.specs.Bits.{bit, number}
+use Rattle.bits.specs.Bits.{bit, number}
 use Rattle.bus.proofs.Ranges.{turned-within, value-turned}
 use Rattle.rules.specs.Frame.{sample, P}
 use Rattle.rules.proofs.Good.{p-within, sequence-config}
@@ -13,11 +13,11 @@ use Rattle.sequence.proofs.step.events_in_order.Tie as tie
 turned-requires : tie.Need-turned-requires
 turned-requires c κs = search needs
 
-element-copy-out-value : tie.Need-element-copy-out-value
-element-copy-out-value c = search needs
+element-copy-out-masked-value : tie.Need-element-copy-out-masked-value
+element-copy-out-masked-value c = search needs
 
-value-requires : tie.Need-value-requires
-value-requires c κs =
+masked-value-requires : tie.Need-masked-value-requires
+masked-value-requires c κs =
     let t = c .before .turned in
     let s = c .before .before .before in
     turned-within (s .args .c .p) (t .result) (t .ensures .0) (t .ensures .1) (p-within (s .args .c) (s .pre .0))
@@ -30,9 +30,9 @@ returns c =
     let t = c .before .before .turned in
     let s = c .before .before .before .before in
     let a = s .args in
-    c .value .ensures ∙ value-turned (a .c .p) (t .result) (t .ensures .0) (t .ensures .1) (sample (a .t2) 1)
+    c .masked-value .ensures ∙ value-turned (a .c .p) (t .result) (t .ensures .0) (t .ensures .1) (sample (a .t2) 1)
     ∙ ap (λ (k : ℕ). number k (λ (i : ℕ). bit (P (a .c) (a .t2)) (k - 1 - i))) (sequence-config (a .c) (s .pre .0) (s .pre .1) .p-width)
 
 pub events-in-order-spec : {M : Type 1} → statement M
 events-in-order-spec =
-    tie.close (tie.spec turned-requires element-copy-out-value value-requires cast-result returns)
+    tie.close (tie.spec turned-requires element-copy-out-masked-value masked-value-requires cast-result returns)

@@ -2,7 +2,7 @@
 use Prim.Native.Nat.{_-_, _≤_}
 use native.Mathlib.Omega.{arith}
 use lib.Pow.{pow-mono}
-use Rattle.bus.proofs.Bits.{lost-some}
+use Rattle.bits.proofs.Bits.{lost-some}
 use Rattle.sequence.proofs.step.some_fails.Statement.{statement}
 use Rattle.sequence.proofs.step.some_fails.Tie as tie
 

@@ -1,11 +1,9 @@
 -- `trace::frame::frame_at` meets its contract. The loop's invariant: the samples before i are the trace's words from the frame's first one on. A cycle of the
 -- trace has all its words in it. The measure is what is left of the samples. Assumes nothing.
 use Prim.Native.Nat.{ℕ, _+_, _-_, _*_, _≤_, _<_, zero-le}
-use mathlib.Core.Path.{_≡_, refl, sym, ap, _∙_}
-use mathlib.Core.List.{List}
+use mathlib.Core.Path.{_≡_, refl, sym, _∙_}
 use native.Mathlib.Numerals.{add-one}
 use native.Mathlib.Omega.{arith}
-use borrow.Author.Needs.{needs}
 use lib.ListN.{length, getD}
 use lib.Seq.{ext-getD}
 use Rattle.rules.specs.Frame.{frameWords}

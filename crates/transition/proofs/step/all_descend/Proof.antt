@@ -1,7 +1,7 @@
 -- `transition::step::all_descend` meets its contract: each part of the test is read as what it says of the ends. Assumes nothing.
 use mathlib.Core.Bool.{_&&_}
 use lib.Dec.{T, leb, leb→le}
-use Rattle.bus.proofs.Tests.{of-true, and-left, and-right}
+use Rattle.bits.proofs.Tests.{of-true, and-left, and-right}
 use borrow.Author.Needs.{needs}
 use Rattle.transition.proofs.step.all_descend.Statement.{statement}
 use Rattle.transition.proofs.step.all_descend.Tie as tie

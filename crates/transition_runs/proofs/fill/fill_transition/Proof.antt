@@ -5,7 +5,6 @@ use mathlib.Core.Path.{_≡_, refl}
 use mathlib.Core.Bool.{false}
 use native.Mathlib.Numerals.{add-one}
 use native.Mathlib.Omega.{arith}
-use Rattle.trace.specs.declared.stretch.Stretch.{Stretch}
 use Rattle.trace.specs.Traces.{frames}
 use Rattle.trace.specs.Stretches.{Runnable, Running, keptFrom}
 use Rattle.trace.proofs.Running.{reached, settled, settled-runnable, settled-ran, filling-none, filling-more, filled}

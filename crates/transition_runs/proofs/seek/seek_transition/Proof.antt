@@ -1,11 +1,10 @@
 -- `transition_runs::seek::seek_transition` meets its contract. The loop's invariant is `Running`: the run has come to an entry with no earlier one where it had to stop. The
 -- measure is what is left of the stretch. Assumes nothing.
 use Prim.Native.Nat.{_+_, _-_, _<_}
-use mathlib.Core.Path.{_≡_, refl}
+use mathlib.Core.Path.{refl}
 use mathlib.Core.Bool.{true}
 use native.Mathlib.Numerals.{add-one}
 use native.Mathlib.Omega.{arith}
-use Rattle.trace.specs.declared.stretch.Stretch.{Stretch}
 use Rattle.trace.specs.Traces.{frames}
 use Rattle.trace.specs.Stretches.{Runnable, Running}
 use Rattle.trace.proofs.Running.{reached, settled, settled-runnable, settled-ran, running-none, running-more}

@@ -1,7 +1,7 @@
 -- `bus::range::Range::wire` meets its contract: the shifted word's lowest digit is the wire `left`, the only one. Assumes nothing.
 use native.Mathlib.Omega.{arith}
 use borrow.Author.Needs.{needs}
-use Rattle.bus.specs.Bits.{bit}
+use Rattle.bits.specs.Bits.{bit}
 use Rattle.bus.proofs.Ranges.{left-low, value-wire}
 use Rattle.bus.proofs.range.Range.wire.Statement.{statement}
 use Rattle.bus.proofs.range.Range.wire.Tie as tie

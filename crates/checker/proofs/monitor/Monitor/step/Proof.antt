@@ -1,6 +1,6 @@
 -- `checker::monitor::Monitor::step` meets its contract: what is not refused is what `step` takes. Assumes nothing.
 use mathlib.Core.Path.{sym, _∙_}
-use Rattle.config.proofs.Refusals.{not-refused}
+use Rattle.open_words.proofs.Refusals.{not-refused}
 use Rattle.checker.proofs.Answers.{step-refused, step-taken}
 use borrow.Author.Needs.{needs}
 use Rattle.checker.proofs.monitor.Monitor.step.Statement.{statement}

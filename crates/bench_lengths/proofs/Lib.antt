@@ -1,0 +1,2 @@
+-- Laws of the refusals of lengths.
+pub mod Lengths

@@ -1,0 +1,2 @@
+-- What the contract for the lengths cites.
+pub mod Lengths

@@ -1,0 +1,6 @@
+-- Laws of tests and bits, which the proofs of the crates above cite too.
+pub mod Tests
+pub mod Bits
+pub mod Ones
+pub mod Packed
+mod Turned

@@ -1,4 +1,0 @@
--- Laws of the counts of marks.
-pub mod Counted
-pub mod Tallies
-pub mod Weights

@@ -1,0 +1,5 @@
+// The marks of two stretches of rows that follow each other.
+mod paired;
+
+pub use paired::half_of;
+pub use paired::with_halves;

@@ -1,0 +1,2 @@
+-- What the contract of the refusal of lengths cites.
+pub mod Lengths

@@ -1,0 +1,4 @@
+// The refusals of a trace's length and of the lengths of a record.
+mod lengths;
+
+pub use lengths::lengths_refusal;

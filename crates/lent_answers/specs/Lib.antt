@@ -1,2 +1,0 @@
--- What the contracts of the answers in lent slices cite.
-pub mod Answers

@@ -1,0 +1,2 @@
+-- What the contract of the totals in a lent slice cites.
+pub mod Answers

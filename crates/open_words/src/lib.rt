@@ -1,0 +1,4 @@
+// The refusal of an open word to go on from.
+mod words;
+
+pub use words::refusal;

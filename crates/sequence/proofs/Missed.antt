@@ -1,0 +1,52 @@
+-- The events that attempts missed, and the highest bit of a word as a number. Bit by bit, the exclusive or with what two words share takes the second from
+-- the first. Assumes nothing.
+use Prim.Native.Nat.{ℕ, zero, suc, _/_, _%_, _*_, _^_, _<_}
+use mathlib.Core.Path.{_≡_, refl, sym, ap, _∙_}
+use mathlib.Core.Bool.{Bool, true, false, not, _&&_, cond}
+use native.Mathlib.Nat.{add-zero, mod-lt, mod-eq-of-lt, two-pow-succ, div-lt-iff-lt-mul}
+use native.Mathlib.Omega.{arith}
+use lib.Dec.{eqb, lit<}
+use lib.Pow.{pow-pos}
+use lib.Bits.{bitAnd, bitXor, xor-shr, xor-mod, xor-lt, and-le-l}
+use Rattle.bits.specs.Bits.{toBit, bit}
+use Rattle.bits.proofs.Bits.{bit-and, bit-digit, bit-double}
+
+pub bit-xor : (a b i : ℕ) → bit (bitXor a b) i ≡ cond (bit b i) (not (bit a i)) (bit a i)
+unfolding bit
+bit-xor a b i =
+    ap (λ (n : ℕ). eqb (n % 2) 1) (xor-shr a b i) ∙ ap (λ (n : ℕ). eqb n 1) (xor-mod (a / 2 ^ i) (b / 2 ^ i) 1)
+    ∙ digits (a / 2 ^ i % 2) (b / 2 ^ i % 2) (mod-lt (a / 2 ^ i) (lit< tt)) (mod-lt (b / 2 ^ i) (lit< tt))
+  where
+    digits : (d e : ℕ) → d < 2 → e < 2 → eqb (bitXor d e) 1 ≡ cond (eqb e 1) (not (eqb d 1)) (eqb d 1)
+    digits zero zero h g = refl
+    digits zero (suc zero) h g = refl
+    digits (suc zero) zero h g = refl
+    digits (suc zero) (suc zero) h g = refl
+    digits zero (suc (suc e)) h g = absurd (omega arith)
+    digits (suc zero) (suc (suc e)) h g = absurd (omega arith)
+    digits (suc (suc d)) e h g = absurd (omega arith)
+
+-- what the first word has and the second has not
+pub bit-without : (a b i : ℕ) → bit (bitXor a (bitAnd a b)) i ≡ (bit a i && not (bit b i))
+bit-without a b i =
+    bit-xor a (bitAnd a b) i ∙ ap (λ (d : Bool). cond d (not (bit a i)) (bit a i)) (bit-and a b i) ∙ taken (bit a i) (bit b i)
+  where
+    taken : (p q : Bool) → cond (p && q) (not p) p ≡ (p && not q)
+    taken true true = refl
+    taken true false = refl
+    taken false q = refl
+
+pub without-lt : (k a b : ℕ) → a < 2 ^ k → bitXor a (bitAnd a b) < 2 ^ k
+without-lt k a b h = xor-lt k a (bitAnd a b) h (omega (arith, and-le-l a b))
+
+-- the attempt that started m + 1 cycles ago misses its event
+pub missed-bit : (w e m : ℕ) → bit (bitXor (w * 2) (bitAnd (w * 2) e)) (suc m) ≡ (bit w m && not (bit e (suc m)))
+missed-bit w e m =
+    let older : bit (w * 2) (suc m) ≡ bit w m = ap (λ (x : ℕ). bit x (suc m)) (sym (add-zero (w * 2))) ∙ bit-double w 0 m (lit< tt) in
+    bit-without (w * 2) e (suc m) ∙ ap (λ (b : Bool). b && not (bit e (suc m))) older
+
+-- of a word of k + 1 digits the highest is left by the division
+pub top-digit : (x k : ℕ) → x < 2 ^ suc k → (x / 2 ^ k ≡ toBit (bit x k)) × (x / 2 ^ k < 2)
+top-digit x k h =
+    let low : x / 2 ^ k < 2 = div-lt-iff-lt-mul (pow-pos k) .1 (omega (arith, two-pow-succ k)) in
+    (sym (bit-digit x k ∙ mod-eq-of-lt low), low)

@@ -1,0 +1,2 @@
+-- A walk over the entries of a tally.
+pub mod Tallies

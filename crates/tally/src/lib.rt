@@ -1,0 +1,4 @@
+// A count for each mark.
+mod tally;
+
+pub use tally::Tally;

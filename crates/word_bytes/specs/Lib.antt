@@ -1,0 +1,2 @@
+-- What the contracts of a word in bytes cite.
+pub mod Bytes
