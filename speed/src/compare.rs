@@ -4,7 +4,8 @@ use crate::inputs::{cut, kept_rows, list_trace, Call, Input, BENCH, CYCLES, LIST
 use crate::plain::{Config, Range, FAILURE, ILLEGAL, MOST_PIPE, OPENED, RESTARTED};
 use crate::proved::Library;
 
-pub fn compare(library: &Library, input: &Input, trace: &[u32]) -> Result<(), String> {
+pub fn compare(library: &Library, input: &Input) -> Result<(), String> {
+    let trace = &input.trace[..];
     if let Call::Bench = input.call {
         return compare_bench(library, &input.checkers, trace);
     }

@@ -1,6 +1,7 @@
 //! What is timed: the traces, made from a seed, and the checkers that run over them.
 use crate::engine::{Engine, Plain, Record};
 use crate::plain::{self, Config, Range, FAILURE, ILLEGAL};
+use std::rc::Rc;
 
 pub const SEED: u64 = 0x5e17_ed6e_2026;
 pub const CYCLES: usize = 65_536;
@@ -18,11 +19,18 @@ const STATES: u8 = 24; // P, Q and R, 8 wires from here up
 /// So many frames are drawn for a failure that is due, before it waits for the next cycle.
 const MOST_DRAWS: u32 = 64;
 
-/// One row of the tables that are printed.
+/// The inputs that are held against the same yardstick, and the names of the columns of time and yardstick.
+pub struct Table {
+    pub columns: [&'static str; 2],
+    pub inputs: Vec<Input>,
+}
+
+/// One row of a table. The trace is that of all checkers, but for a failure list.
 pub struct Input {
     pub name: String,
     pub call: Call,
     pub checkers: Vec<Config>,
+    pub trace: Rc<[u32]>,
 }
 
 #[derive(Clone, Copy)]
@@ -37,24 +45,51 @@ pub enum Call {
     List { one_in: Option<u32> },
 }
 
-/// For each call, each kind alone and then 64 checkers of mixed kinds; a bench step for these 64 only.
-pub fn inputs() -> Vec<Input> {
+/// For each call, each kind alone and then 64 checkers of mixed kinds; a bench step for these 64 only. Full checks also on
+/// buses of several widths.
+pub fn tables() -> Vec<Table> {
+    let trace: Rc<[u32]> = trace().into();
+    let input = |name, call, checkers| Input { name, call, checkers, trace: trace.clone() };
+    let each_alone = |title: &str, call| -> Vec<Input> {
+        alone().into_iter().map(|(name, checker)| input(format!("{title}{name}"), call, vec![checker])).collect()
+    };
+    let all = |title: &str, call| {
+        let mut inputs = each_alone(title, call);
+        inputs.push(input(format!("{title}64 mixed"), call, mixed()));
+        inputs
+    };
+    let mut checks = each_alone("", Call::FullCheck);
+    checks.push(input("64 mixed, full check".into(), Call::FullCheck, mixed()));
+    checks.push(input("64 mixed, bench step".into(), Call::Bench, mixed()));
+    let mut lists = all("list, none, ", Call::List { one_in: None });
+    lists.extend(all("list, 1 in 16, ", Call::List { one_in: Some(16) }));
+    let beside_rust = ["proved ns/step", "plain ns/step"];
+    vec![
+        Table { columns: beside_rust, inputs: checks },
+        Table { columns: beside_rust, inputs: bus_inputs() },
+        Table { columns: ["recheck ns", "full check ns"], inputs: all("recheck, ", Call::Recheck) },
+        Table { columns: ["list pass ns", "full check ns"], inputs: lists },
+    ]
+}
+
+/// Full checks of kinds 1 and 6 on buses of either direction. A bus of one wire has no direction, and kind 1 has at least
+/// two events.
+fn bus_inputs() -> Vec<Input> {
+    let trace: Rc<[u32]> = bus_trace().into();
     let mut inputs = Vec::new();
-    let mut add = |name, call, checkers| inputs.push(Input { name, call, checkers });
-    for (name, checker) in alone() {
-        add(name, Call::FullCheck, vec![checker]);
+    let mut add = |checker: Config| {
+        let Config { kind, p: Range { left, right }, .. } = checker;
+        let name = format!("bus, kind {kind}, [{left}:{right}]");
+        inputs.push(Input { name, call: Call::FullCheck, checkers: vec![checker], trace: trace.clone() });
+    };
+    for width in [2, 8, 31, 32] {
+        add(sequence(1, bus(0, width, false)));
+        add(sequence(1, bus(0, width, true)));
     }
-    add("64 mixed, full check".into(), Call::FullCheck, mixed());
-    add("64 mixed, bench step".into(), Call::Bench, mixed());
-    for (title, call) in [
-        ("recheck", Call::Recheck),
-        ("list, none", Call::List { one_in: None }),
-        ("list, 1 in 16", Call::List { one_in: Some(16) }),
-    ] {
-        for (name, checker) in alone() {
-            add(format!("{title}, {name}"), call, vec![checker]);
-        }
-        add(format!("{title}, 64 mixed"), call, mixed());
+    add(transition(bus(0, 1, false)));
+    for width in [2, 8, 31, 32] {
+        add(transition(bus(0, width, false)));
+        add(transition(bus(0, width, true)));
     }
     inputs
 }
@@ -63,14 +98,14 @@ pub fn inputs() -> Vec<Input> {
 fn alone() -> Vec<(String, Config)> {
     let mut checkers = Vec::new();
     for kind in 0..=2 {
-        checkers.push((format!("kind {kind}, n 8, [7:0]"), sequence(kind, 8, false)));
-        checkers.push((format!("kind {kind}, n 8, [0:7]"), sequence(kind, 8, true)));
+        checkers.push((format!("kind {kind}, n 8, [7:0]"), sequence(kind, bus(EVENTS, 8, false))));
+        checkers.push((format!("kind {kind}, n 8, [0:7]"), sequence(kind, bus(EVENTS, 8, true))));
     }
     for kind in 3..=5 {
         checkers.push((format!("kind {kind}, n 16"), time(kind, 16)));
     }
-    checkers.push(("kind 6, width 8, [31:24]".into(), transition(8, false)));
-    checkers.push(("kind 6, width 8, [24:31]".into(), transition(8, true)));
+    checkers.push(("kind 6, width 8, [31:24]".into(), transition(bus(STATES, 8, false))));
+    checkers.push(("kind 6, width 8, [24:31]".into(), transition(bus(STATES, 8, true))));
     checkers
 }
 
@@ -78,25 +113,24 @@ fn alone() -> Vec<(String, Config)> {
 fn mixed() -> Vec<Config> {
     (0..BENCH)
         .map(|k| match k % 7 {
-            kind @ 0..=2 => sequence(kind as u8, [4, 8, 12, 16][k % 4], k % 2 == 1),
+            kind @ 0..=2 => sequence(kind as u8, bus(EVENTS, [4, 8, 12, 16][k % 4], k % 2 == 1)),
             kind @ 3..=5 => time(kind as u8, [1, 4, 16, 64, 1024][k % 5]),
-            _ => transition([2, 4, 8][k % 3], k % 2 == 1),
+            _ => transition(bus(STATES, [2, 4, 8][k % 3], k % 2 == 1)),
         })
         .collect()
 }
 
 const UNUSED: Range = Range { left: 0, right: 0 };
 
-fn sequence(kind: u8, n: u8, ascending: bool) -> Config {
-    Config { kind, n: n.into(), p: bus(EVENTS, n, ascending), q: UNUSED, r: UNUSED }
+fn sequence(kind: u8, events: Range) -> Config {
+    Config { kind, n: events.width(), p: events, q: UNUSED, r: UNUSED }
 }
 
 fn time(kind: u8, n: u32) -> Config {
     Config { kind, n, p: bus(START, 1, false), q: bus(TEST, 1, false), r: UNUSED }
 }
 
-fn transition(width: u8, ascending: bool) -> Config {
-    let states = bus(STATES, width, ascending);
+fn transition(states: Range) -> Config {
     Config { kind: 6, n: 0, p: states, q: states, r: states }
 }
 
@@ -115,7 +149,7 @@ fn bus(lowest: u8, width: u8, ascending: bool) -> Range {
 ///
 /// An event is there in 3 cycles of 4, so that attempts live for some cycles and some end well; a start in 1 of 8, a test
 /// in 7 of 8; of 4 states one is the start state, and the next one comes in 7 cycles of 8; reset once in some 1,024.
-pub fn trace() -> Vec<u32> {
+fn trace() -> Vec<u32> {
     let mut generator = Generator(SEED);
     let mut state = 0;
     let mut frames = Vec::with_capacity(4 * (CYCLES + BENCH));
@@ -123,6 +157,22 @@ pub fn trace() -> Vec<u32> {
         let frame = generator.frame(state);
         frames.extend(frame);
         state = generator.state_after(&frame);
+    }
+    frames
+}
+
+/// A trace for buses of any width: each wire of P is 1 in 3 cycles of 4; the start state is P's value in at least 1 cycle of
+/// 4, and the next state is P's in the cycle after in at least 7 of 8.
+fn bus_trace() -> Vec<u32> {
+    let mut generator = Generator(SEED);
+    let mut p = generator.often();
+    let mut frames = Vec::with_capacity(4 * (CYCLES + BENCH));
+    for _ in 0..CYCLES + BENCH {
+        let after = generator.often();
+        let start_state = if generator.word().is_multiple_of(4) { p } else { generator.often() };
+        let next_state = if generator.word().is_multiple_of(8) { generator.often() } else { after };
+        frames.extend([generator.reset(), p, start_state, next_state]);
+        p = after;
     }
     frames
 }
@@ -175,6 +225,17 @@ impl Generator {
         (mixed >> 32) as u32
     }
 
+    /// A word of which each bit is 1 three times in 4.
+    fn often(&mut self) -> u32 {
+        self.word() | self.word()
+    }
+
+    /// A reset word: in reset once in some 1,024 cycles.
+    fn reset(&mut self) -> u32 {
+        let in_reset = self.word().is_multiple_of(1024);
+        self.word() & !1 | u32::from(!in_reset)
+    }
+
     /// One of 4 states of 8 wires, which differ in each pair of wires.
     fn state(&mut self) -> u32 {
         self.word() % 4 * 0x55
@@ -183,9 +244,8 @@ impl Generator {
     /// A frame whose test state is the one given.
     fn frame(&mut self, state: u32) -> [u32; 4] {
         let next_state = self.state();
-        let in_reset = self.word().is_multiple_of(1024);
-        let reset = self.word() & !1 | u32::from(!in_reset);
-        let events = (self.word() | self.word()) & EVENT_WIRES;
+        let reset = self.reset();
+        let events = self.often() & EVENT_WIRES;
         let start = (self.word() & self.word() & self.word()) & 1 << START;
         let test = self.word() | self.word() | self.word();
         let p = events | start | state << STATES;

@@ -9,7 +9,7 @@ mod plain;
 mod proved;
 mod timing;
 
-use inputs::{Call, Input, CYCLES};
+use inputs::{Table, CYCLES};
 use proved::Library;
 use std::env;
 use std::process::ExitCode;
@@ -18,18 +18,6 @@ use timing::Plan;
 
 const LEAST_ROUNDS: usize = 31;
 const LEAST_TIME: Duration = Duration::from_millis(500);
-
-/// The inputs that are held against the same yardstick, and the names of the columns of time and yardstick.
-struct Table {
-    columns: [&'static str; 2],
-    has: fn(Call) -> bool,
-}
-
-const TABLES: [Table; 3] = [
-    Table { columns: ["proved ns/step", "plain ns/step"], has: |call| matches!(call, Call::FullCheck | Call::Bench) },
-    Table { columns: ["recheck ns", "full check ns"], has: |call| matches!(call, Call::Recheck) },
-    Table { columns: ["list pass ns", "full check ns"], has: |call| matches!(call, Call::List { .. }) },
-];
 
 fn main() -> ExitCode {
     match run() {
@@ -48,34 +36,34 @@ fn run() -> Result<(), String> {
         return Err("no library given: speed/run makes and gives them".into());
     }
     let plan = plan()?;
-    let inputs = chosen_inputs()?;
-    let trace = inputs::trace();
-    for input in &inputs {
+    let tables = chosen_tables()?;
+    for input in tables.iter().flat_map(|table| &table.inputs) {
         for (library, number) in libraries.iter().zip(1..) {
-            compare::compare(library, input, &trace)
+            compare::compare(library, input)
                 .map_err(|difference| format!("library {number}, {}: {difference}", input.name))?;
         }
     }
     println!("seed {:#x}; {CYCLES} cycles; CPU {}; {}", inputs::SEED, cpu_name(), env!("SPEED_RUSTC"));
     let rounds = plan.least_rounds;
     println!("results equal, entry by entry; memory warm; best of at least {rounds}, interleaved within a row");
-    for table in &TABLES {
-        let inputs: Vec<&Input> = inputs.iter().filter(|input| (table.has)(input.call)).collect();
-        if !inputs.is_empty() {
-            print_table(table, &inputs, &trace, &libraries, plan);
-        }
+    for table in &tables {
+        print_table(table, &libraries, plan);
     }
     Ok(())
 }
 
-/// All inputs; with ONLY, those that have its text in their names.
-fn chosen_inputs() -> Result<Vec<Input>, String> {
+/// All inputs; with ONLY, those that have its text in their names, and the tables that have any.
+fn chosen_tables() -> Result<Vec<Table>, String> {
     let only = env::var("ONLY").unwrap_or_default();
-    let inputs: Vec<Input> = inputs::inputs().into_iter().filter(|input| input.name.contains(&only)).collect();
-    if inputs.is_empty() {
+    let mut tables = inputs::tables();
+    for table in &mut tables {
+        table.inputs.retain(|input| input.name.contains(&only));
+    }
+    tables.retain(|table| !table.inputs.is_empty());
+    if tables.is_empty() {
         return Err(format!("no input has {only:?} in its name"));
     }
-    Ok(inputs)
+    Ok(tables)
 }
 
 /// At least 31 rounds and half a second for each input; with ROUNDS, just so many rounds.
@@ -90,13 +78,13 @@ fn plan() -> Result<Plan, String> {
 }
 
 /// Time, yardstick and their ratio for each input; then the time of the other library, and the first one's divided by it.
-fn print_table(table: &Table, inputs: &[&Input], trace: &[u32], libraries: &[Library], plan: Plan) {
+fn print_table(table: &Table, libraries: &[Library], plan: Plan) {
     let [time, yardstick] = table.columns;
     print!("\n{:39} {time:>14} {yardstick:>14} {:>7}", "input", "ratio");
     println!("{}", if libraries.len() > 1 { format!(" {:>14} {:>11}", "other", "first/other") } else { String::new() });
     let mut worst: f64 = 0.0;
-    for input in inputs {
-        let times = timing::times(input, trace, libraries, plan);
+    for input in &table.inputs {
+        let times = timing::times(input, libraries, plan);
         let (first, yardstick) = (times.libraries[0], times.yardstick);
         let ratio = first / yardstick;
         worst = worst.max(ratio);

@@ -266,7 +266,7 @@ impl Config {
 }
 
 impl Range {
-    fn width(self) -> u32 {
+    pub fn width(self) -> u32 {
         u32::from(self.left.abs_diff(self.right)) + 1
     }
 

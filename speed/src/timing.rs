@@ -36,16 +36,16 @@ struct Memory {
 /// A call that is timed. It was done when it was compared, so here it is done as well.
 type Timed<'a> = Box<dyn Fn(&mut Memory) + 'a>;
 
-pub fn times(input: &Input, trace: &[u32], libraries: &[Library], plan: Plan) -> Times {
+pub fn times(input: &Input, libraries: &[Library], plan: Plan) -> Times {
     match input.call {
-        Call::FullCheck | Call::Bench => all_at_once(input, trace, libraries, plan),
-        Call::Recheck | Call::List { .. } => one_by_one(input, trace, libraries, plan),
+        Call::FullCheck | Call::Bench => all_at_once(input, libraries, plan),
+        Call::Recheck | Call::List { .. } => one_by_one(input, libraries, plan),
     }
 }
 
 /// The calls of all the input's checkers are timed together, beside those of ordinary Rust.
-fn all_at_once(input: &Input, trace: &[u32], libraries: &[Library], plan: Plan) -> Times {
-    let checkers = &input.checkers[..];
+fn all_at_once(input: &Input, libraries: &[Library], plan: Plan) -> Times {
+    let (checkers, trace) = (&input.checkers[..], &input.trace[..]);
     let (call, entries): (fn(_, _, _) -> _, _) = match input.call {
         Call::Bench => (bench, BENCH),
         _ => (full_checks, CYCLES),
@@ -59,7 +59,7 @@ fn all_at_once(input: &Input, trace: &[u32], libraries: &[Library], plan: Plan) 
 
 /// Each checker's call is timed alone, beside its full check over the same trace, and the best times are added up: 64 traces
 /// and kept records at once would be too much for the cache, and it would be the memory that is timed.
-fn one_by_one(input: &Input, trace: &[u32], libraries: &[Library], plan: Plan) -> Times {
+fn one_by_one(input: &Input, libraries: &[Library], plan: Plan) -> Times {
     let checkers = input.checkers.len();
     let plan = Plan { least_time: plan.least_time / checkers as u32, ..plan };
     let mut memory = Memory { record: Record::new(CYCLES), list: vec![0; LIST] };
@@ -68,7 +68,7 @@ fn one_by_one(input: &Input, trace: &[u32], libraries: &[Library], plan: Plan) -
     for (k, config) in input.checkers.iter().enumerate() {
         let best = match input.call {
             Call::List { one_in } => list_times(config, &list_trace(config, one_in), libraries, &mut memory, plan),
-            _ => recheck_times(config, trace, k, libraries, &mut memory, plan),
+            _ => recheck_times(config, &input.trace, k, libraries, &mut memory, plan),
         };
         sums.iter_mut().zip(best).for_each(|(sum, best)| *sum += best);
         failing += memory.record.rows.iter().filter(|row| fails(**row)).count();

@@ -3,12 +3,12 @@ use Prim.Native.Nat.{ℕ, zero, suc, _+_, _-_, _*_, _/_, _%_, _^_, _<_, _≤_, z
 use mathlib.Core.Path.{_≡_, refl, sym, ap, ap₂, subst⁻¹, _∙_}
 use mathlib.Core.Bool.{Bool, true, false, not, _&&_, _||_, or-true, or-false}
 use mathlib.Core.Logic.{⊎-elim}
-use native.Mathlib.Nat.{le-of-suc-le-suc, not-suc-le-zero, eq-or-lt-of-le, le-refl, le-step, lt-of-lt-of-le, lt-of-le-of-lt, add-zero, one-mul, zero-mul, mod-lt, mod-eq-of-lt, mod-one, div-one, div-eq-of-lt, pow-succ', two-pow-succ, add-comm, div-eq-of-lt-le, add-mul}
+use native.Mathlib.Nat.{le-of-suc-le-suc, not-suc-le-zero, eq-or-lt-of-le, le-refl, le-step, lt-of-lt-of-le, lt-of-le-of-lt, add-zero, one-mul, zero-mul, mod-lt, mod-eq-of-lt, mod-one, div-one, div-eq-of-lt, mul-mod-left, pow-succ', two-pow-succ, add-comm, div-eq-of-lt-le, add-mul}
 use native.Mathlib.Omega.{arith}
 use lib.Dec.{T, T-not, not-T, eqb, leb, ltb, lit<, leb→le, le→leb, ltb→lt, lt→ltb}
 use lib.Arith.{digits-div, digits-mod, mod-mul}
-use lib.Bits.{bitAnd, bitOr, or-shifted-r, and-shr, and-mod, and-mask, and-le-l}
-use lib.Pow.{pow-pos, pow-mono, shr-shr, high, low, mod-mod-pow, field, shl-exact}
+use lib.Bits.{bitAnd, bitOr, and-shr, and-mod, or-shr, or-mod, and-mask, and-le-l}
+use lib.Pow.{pow-pos, pow-mono, shl-shr, shr-shr, high, low, mod-mod-pow, field, shl-exact}
 use borrow.Author.Tests.{ltb-true, ltb-false, leb-true, leb-false, eq-eqb, ne-eqb}
 use native.Mathlib.Numerals.{one-add}
 use Rattle.bits.specs.Bits.{toBit, bit, some, number}
@@ -104,22 +104,47 @@ same-bits k x y hx hy h =
 pub number-is : (k x : ℕ) (f : ℕ → Bool) → x < 2 ^ k → ((i : ℕ) → i < k → bit x i ≡ f i) → x ≡ number k f
 number-is k x f h e = sym (mod-eq-of-lt h) ∙ sym (number-bits k x) ∙ number-ext k (bit x) f e
 
+-- An operation on words that goes bit by bit, as a test of two bits.
+module _ (op : ℕ → ℕ → ℕ) (test : Bool → Bool → Bool) (shr : (a b k : ℕ) → op a b / 2 ^ k ≡ op (a / 2 ^ k) (b / 2 ^ k))
+    (rem : (a b k : ℕ) → op a b % 2 ^ k ≡ op (a % 2 ^ k) (b % 2 ^ k)) (one : (p q : Bool) → eqb (op (toBit p) (toBit q)) 1 ≡ test p q) where
+  pub bitwise : (a b i : ℕ) → bit (op a b) i ≡ test (bit a i) (bit b i)
+  unfolding bit
+  bitwise a b i =
+      ap (λ (n : ℕ). eqb (n % 2) 1) (shr a b i) ∙ ap (λ (n : ℕ). eqb n 1) (rem (a / 2 ^ i) (b / 2 ^ i) 1)
+      ∙ ap₂ (λ (d e : ℕ). eqb (op d e) 1) (sym (bit-digit a i)) (sym (bit-digit b i)) ∙ one (bit a i) (bit b i)
+
 pub bit-and : (a b i : ℕ) → bit (bitAnd a b) i ≡ (bit a i && bit b i)
-unfolding bit
-bit-and a b i =
-    ap (λ (n : ℕ). eqb (n % 2) 1) (and-shr a b i) ∙ ap (λ (n : ℕ). eqb n 1) (and-mod (a / 2 ^ i) (b / 2 ^ i) 1)
-    ∙ digits (a / 2 ^ i % 2) (b / 2 ^ i % 2) (mod-lt (a / 2 ^ i) (lit< tt)) (mod-lt (b / 2 ^ i) (lit< tt))
+bit-and = bitwise bitAnd (λ (p q : Bool). p && q) and-shr and-mod one
   where
-    digits : (d e : ℕ) → d < 2 → e < 2 → eqb (bitAnd d e) 1 ≡ (eqb d 1 && eqb e 1)
-    digits zero e h g = refl
-    digits (suc zero) zero h g = refl
-    digits (suc zero) (suc zero) h g = refl
-    digits (suc zero) (suc (suc e)) h g = absurd (omega arith)
-    digits (suc (suc d)) e h g = absurd (omega arith)
+    one : (p q : Bool) → eqb (bitAnd (toBit p) (toBit q)) 1 ≡ (p && q)
+    one true true = refl
+    one true false = refl
+    one false true = refl
+    one false false = refl
+
+pub bit-or : (a b i : ℕ) → bit (bitOr a b) i ≡ (bit a i || bit b i)
+bit-or = bitwise bitOr (λ (p q : Bool). p || q) or-shr or-mod one
+  where
+    one : (p q : Bool) → eqb (bitOr (toBit p) (toBit q)) 1 ≡ (p || q)
+    one true true = refl
+    one true false = refl
+    one false true = refl
+    one false false = refl
 
 pub bit-shr : (x j i : ℕ) → bit (x / 2 ^ j) i ≡ bit x (j + i)
 unfolding bit
 bit-shr x j i = ap (λ (n : ℕ). eqb (n % 2) 1) (shr-shr x j i)
+
+pub bit-shl : (x j i : ℕ) → bit (x * 2 ^ j) i ≡ (leb j i && bit x (i - j))
+bit-shl x j i =
+    ⊎-elim
+    (λ (e : leb j i ≡ true).
+    let at : i ≡ j + (i - j) = omega (arith, leb-true j i e) in
+    rw e (ap (bit (x * 2 ^ j)) at ∙ sym (bit-shr (x * 2 ^ j) j (i - j)) ∙ ap (λ (n : ℕ). bit n (i - j)) (shl-shr x j)))
+    (λ (e : leb j i ≡ false).
+    rw e
+    (sym (bit-mod (x * 2 ^ j) j i (leb-false j i e)) ∙ ap (λ (n : ℕ). bit n i) (mul-mod-left x (2 ^ j)) ∙ bit-past 0 0 i (lit< tt) zero-le))
+    (either (leb j i))
 
 -- the top bit of a number of k + 1 digits
 pub bit-top : (x k : ℕ) → x < 2 ^ suc k → bit x k ≡ leb (2 ^ k) x
@@ -149,20 +174,6 @@ bit-low x b h = ap (λ (n : ℕ). eqb (n % 2) 1) (div-one (x * 2 + b)) ∙ ap (�
 -- 1 shifted left by k, at width w
 pub shifted-one : (k w : ℕ) → k < w → (1 * 2 ^ k) % 2 ^ w ≡ 2 ^ k
 shifted-one k w h = shl-exact 1 k w (lit< tt) (omega arith) ∙ one-mul (2 ^ k)
-
--- the digit at place j shifted left by k, at width w
-pub shifted-digit : (x j k w : ℕ) → k < w → (x / 2 ^ j % 2 * 2 ^ k) % 2 ^ w ≡ toBit (bit x j) * 2 ^ k
-shifted-digit x j k w h =
-    shl-exact 1 k w (mod-lt (x / 2 ^ j) (lit< tt)) (omega arith) ∙ ap (λ (d : ℕ). d * 2 ^ k) (sym (bit-digit x j))
-
--- one more bit of a number that is made of bits, where the bit comes as a shifted digit
-pub number-more : (k w : ℕ) (f : ℕ → Bool) (v x j : ℕ) → k < w → v ≡ number k f → bit x j ≡ f k
-    → bitOr v ((x / 2 ^ j % 2 * 2 ^ k) % 2 ^ w) ≡ number (suc k) f
-unfolding number
-number-more k w f v x j h e b =
-    let below : v < 2 ^ k = subst⁻¹ (λ (n : ℕ). n < 2 ^ k) e (number-lt k f) in
-    ap (bitOr v) (shifted-digit x j k w h ∙ ap (λ (t : Bool). toBit t * 2 ^ k) b) ∙ or-shifted-r (toBit (f k)) k v below
-    ∙ add-comm (toBit (f k) * 2 ^ k) v ∙ ap (λ (n : ℕ). n + toBit (f k) * 2 ^ k) e
 
 -- at most the word of k ones is below 2 ^ k
 pub le-ones-lt : (k x : ℕ) → leb x (2 ^ k - 1) ≡ ltb x (2 ^ k)

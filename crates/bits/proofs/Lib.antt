@@ -3,4 +3,5 @@ pub mod Tests
 pub mod Bits
 pub mod Ones
 pub mod Packed
+mod Groups
 mod Turned

@@ -1,30 +1,24 @@
 -- The events that attempts missed, and the highest bit of a word as a number. Bit by bit, the exclusive or with what two words share takes the second from
 -- the first. Assumes nothing.
-use Prim.Native.Nat.{ℕ, zero, suc, _/_, _%_, _*_, _^_, _<_}
+use Prim.Native.Nat.{ℕ, suc, _/_, _*_, _^_, _<_}
 use mathlib.Core.Path.{_≡_, refl, sym, ap, _∙_}
 use mathlib.Core.Bool.{Bool, true, false, not, _&&_, cond}
-use native.Mathlib.Nat.{add-zero, mod-lt, mod-eq-of-lt, two-pow-succ, div-lt-iff-lt-mul}
+use native.Mathlib.Nat.{add-zero, mod-eq-of-lt, two-pow-succ, div-lt-iff-lt-mul}
 use native.Mathlib.Omega.{arith}
 use lib.Dec.{eqb, lit<}
 use lib.Pow.{pow-pos}
 use lib.Bits.{bitAnd, bitXor, xor-shr, xor-mod, xor-lt, and-le-l}
 use Rattle.bits.specs.Bits.{toBit, bit}
-use Rattle.bits.proofs.Bits.{bit-and, bit-digit, bit-double}
+use Rattle.bits.proofs.Bits.{bitwise, bit-and, bit-digit, bit-double}
 
 pub bit-xor : (a b i : ℕ) → bit (bitXor a b) i ≡ cond (bit b i) (not (bit a i)) (bit a i)
-unfolding bit
-bit-xor a b i =
-    ap (λ (n : ℕ). eqb (n % 2) 1) (xor-shr a b i) ∙ ap (λ (n : ℕ). eqb n 1) (xor-mod (a / 2 ^ i) (b / 2 ^ i) 1)
-    ∙ digits (a / 2 ^ i % 2) (b / 2 ^ i % 2) (mod-lt (a / 2 ^ i) (lit< tt)) (mod-lt (b / 2 ^ i) (lit< tt))
+bit-xor = bitwise bitXor (λ (p q : Bool). cond q (not p) p) xor-shr xor-mod one
   where
-    digits : (d e : ℕ) → d < 2 → e < 2 → eqb (bitXor d e) 1 ≡ cond (eqb e 1) (not (eqb d 1)) (eqb d 1)
-    digits zero zero h g = refl
-    digits zero (suc zero) h g = refl
-    digits (suc zero) zero h g = refl
-    digits (suc zero) (suc zero) h g = refl
-    digits zero (suc (suc e)) h g = absurd (omega arith)
-    digits (suc zero) (suc (suc e)) h g = absurd (omega arith)
-    digits (suc (suc d)) e h g = absurd (omega arith)
+    one : (p q : Bool) → eqb (bitXor (toBit p) (toBit q)) 1 ≡ cond q (not p) p
+    one true true = refl
+    one true false = refl
+    one false true = refl
+    one false false = refl
 
 -- what the first word has and the second has not
 pub bit-without : (a b i : ℕ) → bit (bitXor a (bitAnd a b)) i ≡ (bit a i && not (bit b i))
