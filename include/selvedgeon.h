@@ -38,9 +38,9 @@ extern "C" {
 enum selvedgeon_mark {
     SELVEDGEON_FAILURE = 1,   /* a check failed */
     SELVEDGEON_ILLEGAL = 2,   /* an illegal start: a new start in an open window (kind 5) */
-    SELVEDGEON_OPENED = 4,    /* a trigger, a window opened, or the start state seen */
+    SELVEDGEON_OPENED = 4,    /* a trigger, a window opened (or reset: kind 4), or the start state seen */
     SELVEDGEON_CLOSED = 8,    /* a window closed */
-    SELVEDGEON_RESTARTED = 16 /* a window reset by a new start (kind 4) */
+    SELVEDGEON_RESTARTED = 16 /* a window reset by a new start (kind 4), always with mark 4: row 20 */
 };
 
 /* the refusals: 0 is done. 9 is tested first, then each where it applies, by number */

@@ -167,6 +167,11 @@ pub fn check(case: &mut Case) -> Outcome {
         tally.situation("check of 1 cycle", cycles == 1);
         tally.situation("check of 65,536 cycles", cycles == MOST_CYCLES);
         tally.situation("window of 1,024 cycles closed", config.n == 1024 && rules::count(&rows, 8) > 0);
+        tally.situation("window restarted, row 20", rows.contains(&20));
+        let in_last_cycle = words.iter().zip(rows.iter().skip(1)).any(|pair| pair == (&1, &20));
+        tally.situation("window restarted in its last cycle, n above 1", config.n > 1 && in_last_cycle);
+        let twice_running = rows.windows(2).any(|pair| pair == [20, 20]);
+        tally.situation("window restarted twice running, n = 1", config.n == 1 && twice_running);
     }
     tally.situation("check refused 65,537 cycles", due == 4 && case.size == Size::TooLong);
     tally.situation("trace of 65,536 cycles and one word more", due == 4 && case.size == Size::WordMore);

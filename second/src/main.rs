@@ -1,4 +1,5 @@
-//! A second program for the rules of document 01, and a comparison of the library with it on many inputs.
+//! A second program for the rules of document 01 with §2 of document 02, and a comparison of the library with it on many
+//! inputs.
 //!
 //! SEED=n sets the seed; CASES=n or SECONDS=n how long to run; CASE=n runs one case alone.
 

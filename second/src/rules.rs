@@ -1,6 +1,6 @@
-//! The rules of document 01 as a search over starts. A full check looks, for every cycle, for the starts that matter in it;
-//! a step from an open word builds a trace that leaves this word and asks the same search about its last cycle.
-//! The sentence of the document that a function follows is quoted above it.
+//! The rules of document 01, with §2 of document 02, as a search over starts. A full check looks, for every cycle, for the
+//! starts that matter in it; a step from an open word builds a trace that leaves this word and asks the same search about
+//! its last cycle. The sentence that a function follows is quoted above it, from document 01 where no other is named.
 
 pub const MARKS: [u32; 5] = [1, 2, 4, 8, 16];
 pub const MOST_CYCLES: usize = 65_536;
@@ -281,11 +281,13 @@ impl History {
     /// "test 0 in such a cycle is a failure and does not end it. At s+n mark 8 is set, failed or not, and the check is over.
     /// Start 1 while pending: kind 3 ignores it; kind 4 sets mark 16 only, takes no test, and counts n cycles afresh from
     /// there; kind 5 sets mark 2, tests as usual and carries on. The open word is the number of pending cycles left."
+    /// Document 02, §2, changes "mark 16 only" and nothing else of this: "By source document 001 a new check is initiated
+    /// there, which is what window_open means. So a restart sets 16 and 4, row 20." That is without mark 8, also at s+n.
     fn pending_cycle(&self, s: usize, t: usize) -> Verdict {
         let n = self.config.n as usize;
         let start = self.p[t] == 1;
         if start && self.config.kind == 4 {
-            return Verdict { restarted: true, word: n as u64, ..Verdict::default() };
+            return Verdict { opened: true, restarted: true, word: n as u64, ..Verdict::default() };
         }
         Verdict {
             failed: if self.q[t] == 0 { vec![s] } else { Vec::new() },

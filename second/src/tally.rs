@@ -58,7 +58,7 @@ impl Call {
 pub const NO_KIND: u8 = 7;
 
 /// The situations that every run has to meet, besides calls, kinds, marks and refusals.
-const SITUATIONS: [&str; 34] = [
+const SITUATIONS: [&str; 37] = [
     "check of 0 cycles",
     "check of 1 cycle",
     "check of 65,536 cycles",
@@ -66,6 +66,9 @@ const SITUATIONS: [&str; 34] = [
     "trace of 65,536 cycles and one word more",
     "trace of no multiple of 4 words",
     "window of 1,024 cycles closed",
+    "window restarted, row 20",
+    "window restarted in its last cycle, n above 1",
+    "window restarted twice running, n = 1",
     "attempt failed in its 32nd cycle",
     "recheck of 65,536 cycles",
     "recheck, a = b = N = 0",

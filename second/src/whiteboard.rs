@@ -1,5 +1,6 @@
-//! The whiteboard table of document 01 and the examples under it. The numbers are the document's; the library and the rules are
-//! both held against them.
+//! The whiteboard table of document 01 and the examples under it. The numbers are the document's, but for the rows of case
+//! H, which §2 of document 02 changes: "Case H becomes 4 0 20 0 20 0, same words." The library and the rules are both held
+//! against them.
 
 use crate::generate::{wire, UNUSED};
 use crate::host;
@@ -73,7 +74,7 @@ fn other_lines() -> Vec<Line> {
     let g = || frames(&[1, 0, 1, 0, 1, 0], &[0, 1, 0, 1, 1, 1], &[]);
     vec![
         line("G", time(3, 3), g(), &[4, 0, 1, 8, 4, 0], &[3, 2, 1, 0, 3, 2]),
-        line("H", time(4, 3), g(), &[4, 0, 16, 0, 16, 0], &[3, 2, 3, 2, 3, 2]),
+        line("H", time(4, 3), g(), &[4, 0, 20, 0, 20, 0], &[3, 2, 3, 2, 3, 2]),
         line("I", time(5, 3), g(), &[4, 0, 3, 8, 4, 0], &[3, 2, 1, 0, 3, 2]),
         line("J", time(3, 1), frames(&[1, 1, 1], &[1, 1, 0], &[]), &[4, 8, 4], &[1, 0, 1]),
         line(

@@ -1,7 +1,7 @@
 //! Whether the proved library answers every call that is timed as ordinary Rust does.
 use crate::engine::{Answer, Engine, Plain, Record};
 use crate::inputs::{cut, kept_rows, list_trace, Call, Input, BENCH, CYCLES, LIST};
-use crate::plain::{Config, Range, FAILURE, ILLEGAL, MOST_PIPE, OPENED, RESTARTED};
+use crate::plain::{Config, Range, FAILURE, ILLEGAL, MOST_PIPE, OPENED};
 use crate::proved::Library;
 
 pub fn compare(library: &Library, input: &Input) -> Result<(), String> {
@@ -100,7 +100,7 @@ fn failures(config: &Config, trace: &[u32], record: &Record) -> Vec<[u32; 3]> {
         if row & ILLEGAL != 0 {
             list.push([cycle, ILLEGAL, opened]);
         }
-        if row & (OPENED | RESTARTED) != 0 {
+        if row & OPENED != 0 {
             opened = cycle;
         }
         word = record.words[t];

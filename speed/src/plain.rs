@@ -25,7 +25,7 @@ pub const FAILURE: u32 = 1;
 pub const ILLEGAL: u32 = 2;
 pub const OPENED: u32 = 4;
 const CLOSED: u32 = 8;
-pub const RESTARTED: u32 = 16;
+const RESTARTED: u32 = 16;
 
 const MOST_CYCLES: usize = 65_536;
 const MOST_CHECKERS: usize = 64;
@@ -186,7 +186,7 @@ impl<const KIND: u8> Checker for Time<KIND> {
             return if start { (OPENED, self.n) } else { (0, 0) };
         }
         if KIND == RESET_ON_NEW_START && start {
-            return (RESTARTED, self.n);
+            return (OPENED | RESTARTED, self.n);
         }
         let illegal = KIND == ERROR_ON_NEW_START && start;
         (mark(!test, FAILURE) | mark(illegal, ILLEGAL) | mark(word == 1, CLOSED), word - 1)

@@ -50,36 +50,40 @@ pub fn checker(kind: u8, n: u32, high: u8) -> Config {
     }
 }
 
-// Case A with cycle 2 made 2.
-pub fn sequence_example() {
-    report::text(b"case A, cycle 2 made 2\n");
-    let c = checker(1, 4, 3);
-    let mut trace = CASE_A;
+// The full check of six cycles, then the recheck of the edited trace: what each leaves.
+fn edit(c: Config, trace: [u32; 24], edited: [u32; 24], a: usize, b: usize) {
     let mut rows = [0u32; 6];
     let mut words = [0u64; 6];
     full_check(c, &trace, &mut rows, &mut words);
     report::numbers(b"rows", &rows);
     report::words(&words);
-    trace[9] = 2;
-    report::answer(recheck(c, &trace, &mut rows, &mut words, 2, 3));
+    report::answer(recheck(c, &edited, &mut rows, &mut words, a, b));
     report::numbers(b"rows", &rows);
     report::words(&words);
+}
+
+// Case A with cycle 2 made 2.
+pub fn sequence_example() {
+    report::text(b"case A, cycle 2 made 2\n");
+    let mut edited = CASE_A;
+    edited[9] = 2;
+    edit(checker(1, 4, 3), CASE_A, edited, 2, 3);
 }
 
 // Kind 3, n 2, start and test 1 in six cycles, then start 0 in cycle 0: the recheck runs to the end.
 pub fn time_example() {
     report::text(b"kind 3, n 2, start 0 in cycle 0\n");
-    let c = checker(3, 2, 0);
-    let mut trace = [1u32; 24];
-    let mut rows = [0u32; 6];
-    let mut words = [0u64; 6];
-    full_check(c, &trace, &mut rows, &mut words);
-    report::numbers(b"rows", &rows);
-    report::words(&words);
-    trace[1] = 0;
-    report::answer(recheck(c, &trace, &mut rows, &mut words, 0, 1));
-    report::numbers(b"rows", &rows);
-    report::words(&words);
+    let mut edited = [1u32; 24];
+    edited[1] = 0;
+    edit(checker(3, 2, 0), [1u32; 24], edited, 0, 1);
+}
+
+// The same under kind 4, then start 0 in cycle 2: a window reset goes, and with it a window opened.
+pub fn restart_example() {
+    report::text(b"kind 4, n 2, start 0 in cycle 2\n");
+    let mut edited = [1u32; 24];
+    edited[9] = 0;
+    edit(checker(4, 2, 0), [1u32; 24], edited, 2, 3);
 }
 
 // Case A with a record that is not its own: the recheck goes on from the kept word 0 and stops where the kept word is its own.

@@ -1,4 +1,4 @@
--- The claims about the rules of document 01. Each is proved family by family in the files beside this one. Assumes nothing.
+-- The claims about the rules of document 01, with what document 02 changed. Each is proved family by family in the files beside this one. Assumes nothing.
 use Prim.Native.Nat.{ℕ, suc}
 use mathlib.Core.Path.{_≡_, refl, ap}
 use mathlib.Core.Bool.{true, false}
@@ -81,3 +81,5 @@ pub step-after : (c : Config) → Good c → (w : ℕ) (tr : Trace) (t : ℕ) �
     → Steps c w (tr (suc t)) (row c tr (suc t)) (word c tr (suc t))
 unfolding wordBefore
 step-after c good w tr t e = rw (← e) (step-is-rules c good tr (suc t))
+
+-- 4. A window is opened exactly where a time check is initiated, that is where its start is accepted: `opened-accepted` of `proofs/TimeRules.antt`.

@@ -31,6 +31,14 @@ heard true false = refl
 heard false true = refl
 heard false false = refl
 
+-- such a start, where k is kind 4: one with nothing pending, or a restart
+opens : (s b k : Bool) → ((s && not b) || (k && s && b)) ≡ (s && (not b || k))
+opens true true true = refl
+opens true true false = refl
+opens true false k = refl
+opens false b true = refl
+opens false b false = refl
+
 -- b and b′ agree where a holds
 under : (a b b′ : Bool) → (T a → b ≡ b′) → (a && b) ≡ (a && b′)
 under true b b′ h = h tt
@@ -99,6 +107,11 @@ module _ (c : Config) (tr : Trace) where
   start-accepted : (t : ℕ) → accepted checks t ≡ (startSeen c tr t && (not (busy checks t) || eqb (c .kind) 4))
   unfolding timeChecks windowPending
   start-accepted t = accepted-law checks t ∙ ap (λ (b : Bool). startSeen c tr t && b) (heard (eqb (c .kind) 4) (busy checks t))
+
+  -- a window is opened exactly where a check is initiated: where its start is accepted
+  pub opened-accepted : (t : ℕ) → windowOpened c tr t ≡ accepted checks t
+  unfolding windowOpened windowReset restarts
+  opened-accepted t = opens (startSeen c tr t) (busy checks t) (eqb (c .kind) 4) ∙ sym (start-accepted t)
 
   -- while a check is pending the accepted starts are the restarts
   while-busy : (t : ℕ) → T (busy checks t) → accepted checks t ≡ restarts c tr t
@@ -249,9 +262,9 @@ module _ (c : Config) (tr : Trace) where
       time-marks t u i = record {
         failure = failure-law t (wordBefore c tr t) u (window t) i;
         illegal = eqb (c .kind) 5 && seen i && pending i;
-        opened = seen i && not (pending i);
+        opened = (seen i && not (pending i)) || again i;
         closed = closed-law t (wordBefore c tr t) u (window t) i;
-        restarted = eqb (c .kind) 4 && seen i && pending i;
+        restarted = again i;
       }
         where
           seen : startSeen c tr t ≡ start c (wordBefore c tr t) (tr t)
@@ -259,3 +272,6 @@ module _ (c : Config) (tr : Trace) where
 
           pending : busy checks t ≡ pends c (wordBefore c tr t) (tr t)
           pending = busy-pends t (wordBefore c tr t) (window t)
+
+          again : windowReset c tr t ≡ restart c (wordBefore c tr t) (tr t)
+          again i = eqb (c .kind) 4 && seen i && pending i

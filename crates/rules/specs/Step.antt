@@ -51,7 +51,7 @@ module _ (c : Config) (w : ℕ) (f : Frame) where
   stepMarksOf time = record {
     failure = pends && not (eqb (Q c f) 1) && not restart;
     illegal = eqb (c .kind) 5 && start && pends;
-    opened = start && not pends;
+    opened = (start && not pends) || restart;
     closed = eqb w 1 && not restart;
     restarted = restart;
   }

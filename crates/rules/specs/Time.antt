@@ -1,4 +1,4 @@
--- Kinds 3 to 5, from document 01, "Time". Assumes nothing.
+-- Kinds 3 to 5, from document 01, "Time", and document 02, §2. Assumes nothing.
 use Prim.Native.Nat.{ℕ, zero, suc, _+_, _-_}
 use mathlib.Core.Bool.{Bool, not, _&&_, _||_, cond}
 use lib.Dec.{leb, ltb, eqb}
@@ -43,13 +43,14 @@ module _ (c : Config) (tr : Trace) where
     ignores = not (eqb (c .kind) 4);
   }
 
-  -- "With nothing pending, start 1 at s opens a check (mark 4)"
-  unfoldable pub windowOpened : ℕ → Bool
-  windowOpened t = startSeen t && not (busy timeChecks t)
-
-  -- "Start 1 while pending: […] kind 4 sets mark 16 only"
+  -- "Start 1 while pending: […] kind 4 sets mark 16"
   unfoldable pub windowReset : ℕ → Bool
   windowReset t = restarts t && busy timeChecks t
+
+  -- "With nothing pending, start 1 at s opens a check (mark 4)"; and "a restart sets 16 and 4" (§2), since "a new check is initiated there, which is
+  -- what window_open means"
+  unfoldable pub windowOpened : ℕ → Bool
+  windowOpened t = (startSeen t && not (busy timeChecks t)) || windowReset t
 
   -- "kind 5 sets mark 2"
   unfoldable pub illegalStart : ℕ → Bool

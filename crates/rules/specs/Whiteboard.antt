@@ -1,5 +1,5 @@
--- The twelve cases of document 01, "Whiteboard table", with the rows and words that it shows. That the rules give these is
--- `whiteboard` of `proofs/Cases.antt`. Assumes nothing.
+-- The twelve cases of document 01, "Whiteboard table", with the rows and words that it shows; the rows of H are those of document 02, §2. That the
+-- rules give these is `whiteboard` of `proofs/Cases.antt`. Assumes nothing.
 use Prim.Native.Nat.{ℕ, zero, suc}
 use mathlib.Core.List.{List, [], _∷_}
 use lib.ListN.{getD, length}
@@ -93,7 +93,7 @@ abbrev caseG : Entry
 caseG = record { given = timeCase 3 3 starts tests; rows = 4 ∷ 0 ∷ 1 ∷ 8 ∷ 4 ∷ 0 ∷ []; words = 3 ∷ 2 ∷ 1 ∷ 0 ∷ 3 ∷ 2 ∷ [] }
 
 abbrev caseH : Entry
-caseH = record { given = timeCase 4 3 starts tests; rows = 4 ∷ 0 ∷ 16 ∷ 0 ∷ 16 ∷ 0 ∷ []; words = 3 ∷ 2 ∷ 3 ∷ 2 ∷ 3 ∷ 2 ∷ [] }
+caseH = record { given = timeCase 4 3 starts tests; rows = 4 ∷ 0 ∷ 20 ∷ 0 ∷ 20 ∷ 0 ∷ []; words = 3 ∷ 2 ∷ 3 ∷ 2 ∷ 3 ∷ 2 ∷ [] }
 
 abbrev caseI : Entry
 caseI = record { given = timeCase 5 3 starts tests; rows = 4 ∷ 0 ∷ 3 ∷ 8 ∷ 4 ∷ 0 ∷ []; words = 3 ∷ 2 ∷ 1 ∷ 0 ∷ 3 ∷ 2 ∷ [] }

@@ -19,7 +19,7 @@ abbrev timeMarks : ℕ → ℕ → Bool → Bool → Marks
 timeMarks kind w s t = record {
   failure = ltb 0 w && not t && not (eqb kind 4 && s && ltb 0 w);
   illegal = eqb kind 5 && s && ltb 0 w;
-  opened = s && not (ltb 0 w);
+  opened = (s && not (ltb 0 w)) || (eqb kind 4 && s && ltb 0 w);
   closed = eqb w 1 && not (eqb kind 4 && s && ltb 0 w);
   restarted = eqb kind 4 && s && ltb 0 w;
 }
@@ -39,8 +39,8 @@ module _ (kind n w : ℕ) (t : Bool) where
     some-left : ltb 0 w ≡ true
     some-left = lt-ltb 0 w (omega arith)
 
-    -- a start begins the window of kind 4 again, and then nothing is tested
-    pub time-restarts : (s : Bool) → (s && eqb kind 4) ≡ true → TimeStep kind n w s t 16 n
+    -- a start begins the window of kind 4 again, which opens one, and then nothing is tested
+    pub time-restarts : (s : Bool) → (s && eqb kind 4) ≡ true → TimeStep kind n w s t 20 n
     unfolding rowOf
     time-restarts true e = record { row-is = simp (eqb-true kind 4 e, some-left, and-false); word-is = simp (e, some-left) }
     time-restarts false e = absurd (of-true e)

@@ -33,10 +33,10 @@ fn time_step(c: Config, word: u64, frame: Frame) -> Outcome
             Outcome { row: 0, word: 0 }
         };
     }
-    // The window of kind 4 begins again, and this cycle is not tested.
+    // The window of kind 4 begins again, as an opened one, and this cycle is not tested.
     if start & (c.kind == 4) {
         return Outcome {
-            row: RESTARTED,
+            row: OPENED | RESTARTED,
             word: window,
         };
     }

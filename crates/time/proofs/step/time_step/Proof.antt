@@ -35,7 +35,7 @@ returns-3 : tie.Need-returns-3
 returns-3 c =
     let a = c .before .before .before .before .before .before .before .before .args in
     let start = c .before .before .before .before .wire in
-    time-steps (a .c) (a .word) (a .t3) (start .result) _ 16 (a .c .n) (start .ensures) refl
+    time-steps (a .c) (a .word) (a .t3) (start .result) _ 20 (a .c .n) (start .ensures) refl
     (time-restarts (a .c .kind) (a .c .n) (a .word) _ (c .before .before .if1 .left) (start .result) (c .if3 .taken))
 
 element-copy-out-wire-2 : tie.Need-element-copy-out-wire-2
