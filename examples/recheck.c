@@ -1,6 +1,7 @@
 /*
  * A full check, an edit and a recheck, as a viewer does them: case A of the whiteboard table, a sequence of four events on
- * P [3:0], with cycle 2 changed from 10 to 2. Then a call that is refused.
+ * P [3:0], with cycle 2 changed from 10 to 2. Then a call that is refused. Last, case N below the table: the value 6 is
+ * expected on P [0:2] from 1 to 3 cycles after a trigger, and the failures are listed.
  *
  *     sh build.sh          builds and runs this example
  */
@@ -11,16 +12,19 @@
 
 #define CYCLES 6
 
-/* kind 1, n 4, P [3:0]; Q and R are not used */
-#define SEQUENCE 1, 4, 3, 0, 0, 0, 0, 0
+/* kind 1, n 4, P [3:0]; Q and R are not used, nor min and the expected value */
+#define SEQUENCE 1, 4, 3, 0, 0, 0, 0, 0, 0, 0
+
+/* kind 7, max 3, P [0:2], Q [0:0]; R is not used; min 1, value 6 */
+#define VALUE 7, 3, 0, 2, 0, 0, 0, 0, 1, 6
 
 static const char *refusal_in_words(uint32_t refusal)
 {
     switch (refusal) {
     case SELVEDGEON_DONE: return "done";
-    case SELVEDGEON_BAD_KIND: return "the kind is above 6";
-    case SELVEDGEON_BAD_N: return "n is outside its limits";
-    case SELVEDGEON_BAD_PORTS: return "an index above 31, a wrong width, or an unused port that is not 0:0";
+    case SELVEDGEON_BAD_KIND: return "the kind is above 8";
+    case SELVEDGEON_BAD_N: return "n or min is outside its limits";
+    case SELVEDGEON_BAD_PORTS: return "a port or the expected value does not fit the kind";
     case SELVEDGEON_BAD_TRACE: return "the trace is no multiple of 4 words, or has more than 65,536 cycles";
     case SELVEDGEON_BAD_LENGTH: return "a lent slice has not the length that is due";
     case SELVEDGEON_BAD_RANGE: return "a is above b, or b above N";
@@ -53,6 +57,28 @@ static void print_record(const uint32_t *trace, const uint32_t *rows, const uint
     }
 }
 
+/* the value check of a trace with one trigger, and where it failed */
+static void check_value(void)
+{
+    const uint32_t samples[CYCLES] = {3, 6, 3, 6, 3, 3};
+    uint32_t trace[4 * CYCLES] = {0};
+    uint32_t rows[CYCLES];
+    uint64_t words[CYCLES];
+    uint32_t list[3 * CYCLES];
+
+    for (int t = 0; t < CYCLES; t++) {
+        trace[4 * t] = 3; /* reset_n and enable */
+        trace[4 * t + 1] = samples[t];
+        trace[4 * t + 2] = t == 0; /* the trigger */
+    }
+    uint32_t refusal = selvedgeon_check(VALUE, trace, 4 * CYCLES, rows, CYCLES, words, CYCLES);
+    printf("value 6 on [0:2], 1 to 3 cycles after the trigger: %s\n", refusal_in_words(refusal));
+    print_record(trace, rows, words);
+    uint64_t failures = selvedgeon_failures(VALUE, trace, 4 * CYCLES, list, 3 * CYCLES);
+    for (uint32_t i = 0; i < (uint32_t)failures; i++)
+        printf("  failed in cycle %" PRIu32 ", trigger in cycle %" PRIu32 "\n", list[3 * i], list[3 * i + 2]);
+}
+
 int main(void)
 {
     const uint32_t samples[CYCLES] = {8, 4, 10, 5, 2, 1};
@@ -79,5 +105,7 @@ int main(void)
 
     refusal = selvedgeon_recheck(SEQUENCE, trace, 4 * CYCLES, rows, CYCLES, words, CYCLES, 4, 3, answer, 6);
     printf("recheck from 4 to 3: refused, %s\n", refusal_in_words(refusal));
+
+    check_value();
     return 0;
 }

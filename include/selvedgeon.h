@@ -1,11 +1,12 @@
 /*
- * Selvedgeon: OVL assertion checkers over a recorded trace.
+ * Selvedgeon: OVL assertion checkers and UVVM's checks after a trigger, over a recorded trace.
  *
- * A trace is N frames of four 32-bit words, one frame a cycle: reset, P, Q, R. Bit 0 of the reset word is reset_n; bit w of
- * a port's word is its wire w. A port is declared by a range [left:right] of wire numbers 0 to 31, and its value is read
- * in that order: the left wire is the most significant, and the right wire is bit 0.
+ * A trace is N frames of four 32-bit words, one frame a cycle: reset, P, Q, R. Bit 0 of the reset word is reset_n, and for
+ * kinds 7 and 8 bit 1 is enable; bit w of a port's word is its wire w. A port is declared by a range [left:right] of wire
+ * numbers 0 to 31, and its value is read in that order: the left wire is the most significant, and the right wire is bit 0.
  *
- * A checker is configured by eight numbers: its kind, n (num_cks), and the left and right end of P, Q and R.
+ * A checker is configured by ten numbers: its kind, n (num_cks; for kinds 7 and 8 max), the left and right end of P, Q and
+ * R, min, and the expected value.
  *
  *     kind                          n          P          Q            R
  *     0  sequence, most-pipe        2..32      n events   unused       unused
@@ -15,8 +16,17 @@
  *     4  time, reset on new start   1..1024    start      test         unused
  *     5  time, error on new start   1..1024    start      test         unused
  *     6  transition                 0          test       start state  next state
+ *     7  value after a trigger      0..1024    value      trigger      unused
+ *     8  stability after a trigger  0..1024    value      trigger      unused
  *
- * A port that is not used is declared 0:0.
+ * A port that is not used is declared 0:0, and a number that is not used is 0: min for kinds 0 to 6, the expected value for
+ * all kinds but 7.
+ *
+ * Kinds 7 and 8 watch the tracked value P, of 1 to 32 wires, from min to max cycles after a trigger at s (Q 1 and enable 1),
+ * 0 <= min <= max. Kind 7 fails in each enabled cycle of s+min to s+max where P is not the expected value, which fits the
+ * width of P; kind 8 in each where P is not what it was in the first enabled cycle from s+min on. A cycle with enable 0
+ * counts, but is not tested, and no trigger is seen in it. A failure does not end the window, and a trigger in s+1 to s+max
+ * is ignored. Mark 4 is set at s, mark 8 at s+max.
  *
  * A record is N rows of 32 bits and N open words of 64 bits. A row is the sum of its cycle's marks. An open word says which
  * checks are unfinished after its cycle; a word is possible for a configuration where some trace leaves it.
@@ -46,9 +56,10 @@ enum selvedgeon_mark {
 /* the refusals: 0 is done. 9 is tested first, then each where it applies, by number */
 enum selvedgeon_refusal {
     SELVEDGEON_DONE = 0,
-    SELVEDGEON_BAD_KIND = 1,      /* the kind is above 6 */
-    SELVEDGEON_BAD_N = 2,         /* n is outside its limits */
-    SELVEDGEON_BAD_PORTS = 3,     /* an index above 31, a wrong width, or an unused port that is not 0:0 */
+    SELVEDGEON_BAD_KIND = 1,      /* the kind is above 8 */
+    SELVEDGEON_BAD_N = 2,         /* n is outside its limits, min above max, or min not 0 where it is unused */
+    SELVEDGEON_BAD_PORTS = 3,     /* an index above 31, a wrong width, an unused port that is not 0:0, or an expected value
+                                     that does not fit P or is not 0 where it is unused */
     SELVEDGEON_BAD_TRACE = 4,     /* the trace is no multiple of 4 words, or has more than 65,536 cycles */
     SELVEDGEON_BAD_LENGTH = 5,    /* another lent slice has not the length that is due */
     SELVEDGEON_BAD_RANGE = 6,     /* a is above b, or b above N */
@@ -69,6 +80,8 @@ struct selvedgeon_config {
     struct selvedgeon_range p;
     struct selvedgeon_range q;
     struct selvedgeon_range r;
+    uint32_t min;
+    uint32_t value;
 };
 
 /*
@@ -78,8 +91,8 @@ struct selvedgeon_config {
  * Refusals: 1, 2, 3; 5 where word_len is not 8; 7.
  */
 uint32_t selvedgeon_step(uint8_t kind, uint32_t n, uint8_t p_left, uint8_t p_right, uint8_t q_left, uint8_t q_right,
-                         uint8_t r_left, uint8_t r_right, uint32_t reset, uint32_t p, uint32_t q, uint32_t r,
-                         uint8_t *word, size_t word_len);
+                         uint8_t r_left, uint8_t r_right, uint32_t min, uint32_t value, uint32_t reset, uint32_t p,
+                         uint32_t q, uint32_t r, uint8_t *word, size_t word_len);
 
 /*
  * The full check of a trace of N cycles.
@@ -88,8 +101,8 @@ uint32_t selvedgeon_step(uint8_t kind, uint32_t n, uint8_t p_left, uint8_t p_rig
  * Refusals: 1, 2, 3, 4; 5 where rows_len or words_len is not N.
  */
 uint32_t selvedgeon_check(uint8_t kind, uint32_t n, uint8_t p_left, uint8_t p_right, uint8_t q_left, uint8_t q_right,
-                          uint8_t r_left, uint8_t r_right, const uint32_t *trace, size_t trace_len, uint32_t *rows,
-                          size_t rows_len, uint64_t *words, size_t words_len);
+                          uint8_t r_left, uint8_t r_right, uint32_t min, uint32_t value, const uint32_t *trace,
+                          size_t trace_len, uint32_t *rows, size_t rows_len, uint64_t *words, size_t words_len);
 
 /*
  * The recheck of a record after an edit of the trace in cycles a to b-1: rows and words are those of the old trace, the
@@ -100,9 +113,9 @@ uint32_t selvedgeon_check(uint8_t kind, uint32_t n, uint8_t p_left, uint8_t p_ri
  * Refusals: 1, 2, 3, 4; 5 where rows_len or words_len is not N or answer_len is not 6; 6; 7 for the word before cycle a.
  */
 uint32_t selvedgeon_recheck(uint8_t kind, uint32_t n, uint8_t p_left, uint8_t p_right, uint8_t q_left, uint8_t q_right,
-                            uint8_t r_left, uint8_t r_right, const uint32_t *trace, size_t trace_len, uint32_t *rows,
-                            size_t rows_len, uint64_t *words, size_t words_len, uint64_t a, uint64_t b,
-                            int32_t *answer, size_t answer_len);
+                            uint8_t r_left, uint8_t r_right, uint32_t min, uint32_t value, const uint32_t *trace,
+                            size_t trace_len, uint32_t *rows, size_t rows_len, uint64_t *words, size_t words_len,
+                            uint64_t a, uint64_t b, int32_t *answer, size_t answer_len);
 
 /*
  * How many rows have each mark; other bits of a row are ignored.
@@ -120,8 +133,8 @@ uint32_t selvedgeon_totals(const uint32_t *rows, size_t rows_len, uint32_t *coun
  * Refusals: 1, 2, 3, 4; 8 where the list is too short.
  */
 uint64_t selvedgeon_failures(uint8_t kind, uint32_t n, uint8_t p_left, uint8_t p_right, uint8_t q_left, uint8_t q_right,
-                             uint8_t r_left, uint8_t r_right, const uint32_t *trace, size_t trace_len, uint32_t *list,
-                             size_t list_len);
+                             uint8_t r_left, uint8_t r_right, uint32_t min, uint32_t value, const uint32_t *trace,
+                             size_t trace_len, uint32_t *list, size_t list_len);
 
 /*
  * How many checks an open word says are unfinished.
@@ -130,7 +143,8 @@ uint64_t selvedgeon_failures(uint8_t kind, uint32_t n, uint8_t p_left, uint8_t p
  * Refusals: 1, 2, 3, 7.
  */
 uint32_t selvedgeon_open_count(uint8_t kind, uint32_t n, uint8_t p_left, uint8_t p_right, uint8_t q_left,
-                               uint8_t q_right, uint8_t r_left, uint8_t r_right, uint64_t word);
+                               uint8_t q_right, uint8_t r_left, uint8_t r_right, uint32_t min, uint32_t value,
+                               uint64_t word);
 
 /*
  * The first failing cycle (mark 1 or 2) over the rows of several checkers, which lie checker by checker, `cycles` rows

@@ -9,6 +9,7 @@
 #include "selvedgeon.h"
 
 #define MOST 65
+#define KINDS 9
 #define GUARD 0xa5a5a5a5u
 
 static int compared, failed;
@@ -38,18 +39,18 @@ static uint32_t run(struct bench *b, size_t checkers)
 /* checker k: the kinds in turn, each with a word that is possible for it and a frame on which something happens */
 static void fill(struct bench *b)
 {
-    static const struct selvedgeon_config kinds[7] = {
-        {0, 4, {3, 0}, {0, 0}, {0, 0}}, {1, 4, {0, 3}, {0, 0}, {0, 0}}, {2, 3, {2, 0}, {0, 0}, {0, 0}},
-        {3, 3, {0, 0}, {1, 1}, {0, 0}}, {4, 3, {0, 0}, {1, 1}, {0, 0}}, {5, 3, {0, 0}, {1, 1}, {0, 0}},
-        {6, 0, {2, 0}, {2, 0}, {2, 0}},
+    static const struct selvedgeon_config kinds[KINDS] = {
+        {0, 4, {3, 0}, {0, 0}, {0, 0}, 0, 0}, {1, 4, {0, 3}, {0, 0}, {0, 0}, 0, 0}, {2, 3, {2, 0}, {0, 0}, {0, 0}, 0, 0},
+        {3, 3, {0, 0}, {1, 1}, {0, 0}, 0, 0}, {4, 3, {0, 0}, {1, 1}, {0, 0}, 0, 0}, {5, 3, {0, 0}, {1, 1}, {0, 0}, 0, 0},
+        {6, 0, {2, 0}, {2, 0}, {2, 0}, 0, 0}, {7, 3, {0, 2}, {1, 1}, {0, 0}, 1, 6}, {8, 4, {2, 0}, {1, 1}, {0, 0}, 2, 0},
     };
-    static const uint64_t words[7] = {5, 3, 2, 2, 1, 3, UINT64_C(0x100000004)};
+    static const uint64_t words[KINDS] = {5, 3, 2, 2, 1, 3, UINT64_C(0x100000004), 2, UINT64_C(0x1000000060002)};
     memset(b, 0, sizeof *b);
     for (uint32_t k = 0; k < MOST; k++) {
-        b->table[k] = kinds[k % 7];
-        b->words[k] = words[k % 7];
+        b->table[k] = kinds[k % KINDS];
+        b->words[k] = words[k % KINDS];
         b->rows[k] = GUARD;
-        b->frames[4 * k] = k % 11 != 10; /* some checkers are in reset */
+        b->frames[4 * k] = k % 11 == 10 ? 2 : k % 5 == 4 ? 1 : 3; /* some checkers are in reset, and some not enabled */
         b->frames[4 * k + 1] = 5 * k + 1;
         b->frames[4 * k + 2] = 3 * k;
         b->frames[4 * k + 3] = k;
@@ -72,7 +73,7 @@ static void expect_stepped(struct bench *b, size_t checkers)
         for (int i = 0; i < 8; i++)
             word[i] = (uint8_t)(before.words[k] >> 8 * i);
         uint32_t row = selvedgeon_step(c->kind, c->n, c->p.left, c->p.right, c->q.left, c->q.right, c->r.left,
-                                       c->r.right, frame[0], frame[1], frame[2], frame[3], word, 8);
+                                       c->r.right, c->min, c->value, frame[0], frame[1], frame[2], frame[3], word, 8);
         for (int i = 0; i < 8; i++)
             next |= (uint64_t)word[i] << 8 * i;
         expect("row", b->rows[k], row);
@@ -102,7 +103,7 @@ static void refusals(void)
     expect_refused("words too long", &b, selvedgeon_bench(b.table, 4, b.frames, 16, b.words, 5, b.rows, 4), 5, 0, &before);
     expect_refused("rows too short", &b, selvedgeon_bench(b.table, 4, b.frames, 16, b.words, 4, b.rows, 3), 5, 0, &before);
 
-    b.table[40].kind = 7;
+    b.table[40].kind = 9;
     b.table[50].kind = 200;
     memcpy(&before, &b, sizeof b);
     expect_refused("kind of checker 40", &b, run(&b, 64), 1, 40, &before);
@@ -112,6 +113,12 @@ static void refusals(void)
     b.words[63] = UINT64_MAX;
     memcpy(&before, &b, sizeof b);
     expect_refused("word of checker 63", &b, run(&b, 64), 7, 63, &before);
+    b.table[34].value = 8; /* kind 7 on three wires */
+    memcpy(&before, &b, sizeof b);
+    expect_refused("value of checker 34", &b, run(&b, 64), 3, 34, &before);
+    b.table[33].min = 1; /* kind 6 */
+    memcpy(&before, &b, sizeof b);
+    expect_refused("min of checker 33", &b, run(&b, 64), 2, 33, &before);
     b.table[31].n = 1025;
     memcpy(&before, &b, sizeof b);
     expect_refused("n of checker 31", &b, run(&b, 64), 2, 31, &before);
@@ -126,7 +133,7 @@ static void refusals(void)
 static void case_c(void)
 {
     static const uint32_t samples[6] = {8, 4, 10, 5, 2, 1}, rows[6] = {0, 0, 0, 4, 0, 5}, words[6] = {0, 0, 0, 1, 2, 1};
-    struct selvedgeon_config c = {1, 4, {0, 3}, {0, 0}, {0, 0}};
+    struct selvedgeon_config c = {1, 4, {0, 3}, {0, 0}, {0, 0}, 0, 0};
     uint64_t word = 0;
     uint32_t row = GUARD;
     for (int t = 0; t < 6; t++) {

@@ -5,6 +5,7 @@ use crate::generate::{self, Random};
 use crate::host;
 use crate::rules::{self, Config, Edit, Record, MOST_CYCLES};
 use crate::tally::{Call, Tally, NO_KIND};
+use crate::windows;
 use std::fmt::Debug;
 
 type Outcome = Result<(), String>;
@@ -48,18 +49,21 @@ impl Case<'_> {
     }
 
     fn config(&mut self) -> Config {
-        if self.fault(200) {
+        let config = if self.fault(200) {
             generate::damaged_config(&mut self.random)
         } else {
             generate::good_config(&mut self.random)
-        }
+        };
+        // Every call that takes a configuration tests it first.
+        windows::tally_config(self.tally, config);
+        config
     }
 
     fn cycles(&mut self, n: u32) -> usize {
         if self.size != Size::Any {
             return if self.size == Size::TooLong { MOST_CYCLES + 1 } else { MOST_CYCLES };
         }
-        if (300..=1024).contains(&n) && self.random.chance(256) {
+        if (300..=1024).contains(&n) && self.random.chance(if n == 1024 { 512 } else { 256 }) {
             // Long enough that the longest window closes.
             return 1000 + self.random.below(3000);
         }
@@ -101,9 +105,8 @@ pub fn step(case: &mut Case) -> Outcome {
     let mut word = case.random.next();
     if config.refusal() == 0 {
         word = any_word(&mut case.random, config, 100);
-        if config.kind == 6 && word != 0 && case.random.chance(512) {
-            // The value that passes: it is hit seldom by chance.
-            word = 1 << 32 | u64::from(config.p.value(frame[1]));
+        if case.random.chance(512) {
+            word = generate::passing_word(config, frame, word);
         }
     }
     let mut lent = word.to_le_bytes().to_vec();
@@ -120,8 +123,31 @@ pub fn step(case: &mut Case) -> Outcome {
     case.tally.case(Call::Step, Some(config.kind), due / 256);
     if due < 256 {
         case.tally.rows(Call::Step, config.kind, &[due]);
+        tally_window_step(case.tally, config, word, frame, due);
+    }
+    if lent.len() == 8 && config.refusal() == 0 {
+        windows::tally_word(case.tally, config, word);
     }
     Ok(())
+}
+
+/// What a step of kind 7 or 8 did in an open window that it neither opened nor failed.
+fn tally_window_step(tally: &mut Tally, config: Config, word: u64, frame: rules::Frame, row: u32) {
+    let held = rules::reference_in(word).is_some();
+    let left = if held { rules::cycles_left_in(word) } else { word };
+    // The step's own cycle is s+max−left+1.
+    let in_range = left > 0 && u64::from(config.n) + 1 - left >= u64::from(config.min);
+    if !config.is_after_trigger() || frame[0] & 1 == 0 || row & 1 != 0 || !in_range {
+        return;
+    }
+    let enable = frame[0] & 2 != 0;
+    if config.kind == 7 {
+        tally.situation("step, value tested and passed", enable);
+        tally.situation("step, value not tested, enable 0", !enable && config.p.value(frame[1]) != config.value);
+    } else {
+        tally.situation("step, stability, reference taken", enable && !held);
+        tally.situation("step, stability, compared and passed", enable && held);
+    }
 }
 
 /// A short trace in full, a longer one by its length: its case can be run again alone.
@@ -166,12 +192,14 @@ pub fn check(case: &mut Case) -> Outcome {
         tally.situation("check of 0 cycles", cycles == 0);
         tally.situation("check of 1 cycle", cycles == 1);
         tally.situation("check of 65,536 cycles", cycles == MOST_CYCLES);
-        tally.situation("window of 1,024 cycles closed", config.n == 1024 && rules::count(&rows, 8) > 0);
+        let is_longest = config.is_time() && config.n == 1024;
+        tally.situation("window of 1,024 cycles closed", is_longest && rules::count(&rows, 8) > 0);
         tally.situation("window restarted, row 20", rows.contains(&20));
         let in_last_cycle = words.iter().zip(rows.iter().skip(1)).any(|pair| pair == (&1, &20));
         tally.situation("window restarted in its last cycle, n above 1", config.n > 1 && in_last_cycle);
         let twice_running = rows.windows(2).any(|pair| pair == [20, 20]);
         tally.situation("window restarted twice running, n = 1", config.n == 1 && twice_running);
+        windows::tally_windows(tally, config, &trace, &rows);
     }
     tally.situation("check refused 65,537 cycles", due == 4 && case.size == Size::TooLong);
     tally.situation("trace of 65,536 cycles and one word more", due == 4 && case.size == Size::WordMore);
@@ -286,6 +314,7 @@ fn compare_recheck(case: &mut Case, edit: &Edit, lent: Lent, is_true: bool) -> O
         true_record_claims(edit, &lent, &due).map_err(context)?;
     }
     tally_recheck(case.tally, edit, &lent, &due, refusal, is_true);
+    tally_window_recheck(case.tally, edit, &lent.words, &due.answer, refusal, is_true);
     Ok(())
 }
 
@@ -333,6 +362,23 @@ fn tally_recheck(tally: &mut Tally, edit: &Edit, lent: &Lent, due: &Lent, refusa
         tally.situation("recheck, false record, e = b", ends[0]);
         tally.situation("recheck, false record, e between b and N", ends[1]);
         tally.situation("recheck, false record, e = N above b", ends[2]);
+    }
+}
+
+/// What a recheck of kind 7 or 8 went on from, and whether it ended later than a limit like that of kind 4 would let it.
+fn tally_window_recheck(tally: &mut Tally, edit: &Edit, kept: &[u64], answer: &[i32], refusal: u32, is_true: bool) {
+    if !edit.config.is_after_trigger() || !matches!(refusal, 0 | 7) {
+        return;
+    }
+    let before = if edit.a == 0 { 0 } else { kept[edit.a as usize - 1] };
+    windows::tally_word(tally, edit.config, before);
+    if refusal == 0 {
+        let e = answer[0] as u64;
+        let (held, goes_on) = (rules::reference_in(before).is_some(), edit.config.kind == 8 && e > edit.a);
+        tally.situation("recheck goes on with a reference", goes_on && held);
+        tally.situation("recheck goes on before the reference", goes_on && !held && before != 0);
+        let late = is_true && e > edit.b + u64::from(edit.config.n);
+        tally.situation("recheck, true record, e above b + max, kinds 7 and 8", late);
     }
 }
 
@@ -384,6 +430,8 @@ pub fn failures(case: &mut Case) -> Outcome {
         case.tally.situation("failures of 65,536 cycles", cycles == MOST_CYCLES);
         let longest = |entry: &[u32]| config.is_sequence() && entry[0] - entry[2] == 31;
         case.tally.situation("attempt failed in its 32nd cycle", list[..needed].chunks_exact(3).any(longest));
+        let own_cycle = list[..needed].chunks_exact(3).any(|entry| entry[0] == entry[2]);
+        case.tally.situation("failures, start in its own cycle", own_cycle);
     }
     case.tally.situation("failures, list exactly long enough", refusal == 0 && needed > 0 && list_len == needed);
     case.tally.situation("failures, list longer", refusal == 0 && needed > 0 && list_len > needed);
@@ -401,6 +449,9 @@ pub fn open_count(case: &mut Case) -> Outcome {
     same("answer", host::open_count(config, word), due)
         .map_err(|d| format!("open count, {config:?}, word {word:#x}: {d}"))?;
     case.tally.case(Call::OpenCount, Some(config.kind), due / 256);
+    if config.refusal() == 0 {
+        windows::tally_word(case.tally, config, word);
+    }
     Ok(())
 }
 

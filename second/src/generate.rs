@@ -1,6 +1,6 @@
 //! The inputs: configurations, traces, open words and records, all from one deterministic generator.
 
-use crate::rules::{Config, Frame, Range};
+use crate::rules::{cycles_left_in, reference_in, with_reference, Config, Frame, Range};
 
 /// splitmix64
 pub struct Random(u64);
@@ -59,6 +59,9 @@ impl Random {
 
 pub const UNUSED: Range = wire(0);
 
+/// The wire of the reset word that is the enable of kinds 7 and 8.
+const ENABLE: Range = wire(1);
+
 /// A port that is one wire.
 pub const fn wire(w: u8) -> Range {
     Range { left: w, right: w }
@@ -76,7 +79,7 @@ fn range(random: &mut Random, width: u32) -> Range {
 }
 
 pub fn good_config(random: &mut Random) -> Config {
-    let kind = random.below(7) as u8;
+    let kind = random.below(9) as u8;
     good_config_of(random, kind)
 }
 
@@ -85,17 +88,25 @@ pub fn good_config_of(random: &mut Random, kind: u8) -> Config {
     let n = match kind {
         0..=2 => random.pick(&[2, 2, 3, 3, 4, 5, 6, 8, 16, 31, 32, 32, 2 + any % 31]),
         3..=5 => random.pick(&[1, 1, 2, 2, 3, 4, 5, 7, 10, 20, 1023, 1024, any.max(1), 1 + any % 40]),
-        _ => 0,
+        6 => 0,
+        _ => random.pick(&[0, 0, 1, 1, 2, 2, 3, 4, 5, 7, 10, 20, 1023, 1024, 1024, any, any % 40]),
     };
+    let width = random.pick(&[1, 1, 2, 3, 4, 8, 31, 32, 32, 1 + any % 32]);
     let (p, q, r) = match kind {
         0..=2 => (range(random, n), UNUSED, UNUSED),
         3..=5 => (range(random, 1), range(random, 1), UNUSED),
-        _ => {
-            let width = random.pick(&[1, 1, 2, 3, 4, 8, 31, 32, 32, 1 + any % 32]);
-            (range(random, width), range(random, width), range(random, width))
-        }
+        6 => (range(random, width), range(random, width), range(random, width)),
+        _ => (range(random, width), range(random, 1), UNUSED),
     };
-    Config { kind, n, p, q, r }
+    let mut config = Config { kind, n, p, q, r, min: 0, value: 0 };
+    if config.is_after_trigger() {
+        config.min = random.pick(&[0, 0, 1.min(n), n, n, n.saturating_sub(1), n / 2, any % (n + 1)]);
+    }
+    if kind == 7 {
+        let (word, greatest) = (random.word(), u32::MAX >> (32 - width));
+        config.value = random.pick(&[word & greatest, word & greatest, 0, 1, greatest]);
+    }
+    config
 }
 
 /// n just outside of its limits, far outside, or anything. Where the width can follow n, it does: then n alone is bad.
@@ -103,6 +114,7 @@ fn damage_n(random: &mut Random, config: &mut Config) {
     config.n = match config.kind {
         0..=2 => random.pick(&[0, 1, 1, 33, 33, 64, 1024, u32::MAX]),
         3..=5 => random.pick(&[0, 0, 1025, 1025, 65_536, u32::MAX]),
+        7 | 8 => random.pick(&[config.min.saturating_sub(1), 1025, 1025, 65_536, u32::MAX]),
         _ => random.pick(&[1, 1, 2, 32, 256, u32::MAX]),
     };
     if config.is_sequence() && config.n == 1 && random.chance(512) {
@@ -133,14 +145,42 @@ fn damage_port(random: &mut Random, config: &mut Config) {
     }
 }
 
+/// A min above max, or a min of a kind that has none.
+fn damage_min(random: &mut Random, config: &mut Config) {
+    let any = random.word();
+    config.min = if config.is_after_trigger() {
+        let above = config.n.wrapping_add(1);
+        random.pick(&[above, above, above, 1025, u32::MAX, any])
+    } else {
+        random.pick(&[1, 1, config.n, 1024, u32::MAX, any])
+    };
+}
+
+/// A value that has one bit too many for P, or the value of a kind that expects none.
+fn damage_value(random: &mut Random, config: &mut Config) {
+    let any = random.word();
+    config.value = if config.kind == 7 {
+        let above = 1u32.checked_shl(config.p.width()).unwrap_or(u32::MAX);
+        random.pick(&[above, above, above | config.value, u32::MAX, any])
+    } else {
+        random.pick(&[1, 1, 1 << 31, u32::MAX, any])
+    };
+}
+
+/// A kind that does not exist, or one whose limits, ports, min and value need not be those of this configuration.
+fn damage_kind(random: &mut Random, config: &mut Config) {
+    let any = 9 + random.below(247) as u8;
+    let another = random.below(9) as u8;
+    config.kind = random.pick(&[9, 9, 10, 128, 254, 255, any, another]);
+}
+
 fn damage(random: &mut Random, config: &mut Config) {
-    match random.below(3) {
-        0 => {
-            let any = 7 + random.below(249) as u8;
-            config.kind = random.pick(&[7, 7, 8, 128, 254, 255, any]);
-        }
-        1 => damage_n(random, config),
-        _ => damage_port(random, config),
+    match random.below(7) {
+        0 | 1 => damage_kind(random, config),
+        2 => damage_n(random, config),
+        3 | 4 => damage_port(random, config),
+        5 => damage_min(random, config),
+        _ => damage_value(random, config),
     }
 }
 
@@ -156,6 +196,7 @@ pub fn damaged_config(random: &mut Random) -> Config {
         config.p = Range { left: any[1], right: any[2] };
         config.q = Range { left: any[3], right: any[4] };
         config.r = Range { left: any[5], right: any[6] };
+        (config.min, config.value) = (random.word(), random.word());
     }
     config
 }
@@ -170,6 +211,8 @@ struct Style {
     planted: usize,
     states: Vec<u32>,
     fixed_start_state: bool,
+    enable: usize,
+    steady: usize,
 }
 
 fn style(random: &mut Random) -> Style {
@@ -182,6 +225,8 @@ fn style(random: &mut Random) -> Style {
         planted: random.pick(&[0, 0, 20, 200]),
         states: random.words(states),
         fixed_start_state: random.chance(512),
+        enable: random.pick(&[100, 512, 900, 1000, 1024, 1024]),
+        steady: random.pick(&[0, 512, 900, 1000, 1024, 1024]),
     }
 }
 
@@ -195,6 +240,17 @@ fn put_value(word: &mut u32, range: Range, value: u32) {
     }
 }
 
+/// The tracked value of a check after a trigger: most often the one that passes, else often wrong in one wire only.
+fn tracked_value(random: &mut Random, config: Config, style: &Style) -> u32 {
+    let passes = if config.kind == 7 { config.value } else { style.states[0] };
+    if random.chance(style.steady) {
+        return passes;
+    }
+    let one_wire = passes ^ 1 << random.below(config.p.width() as usize);
+    let (state, any) = (random.pick(&style.states), random.word());
+    random.pick(&[one_wire, one_wire, state, any])
+}
+
 /// A frame for a good configuration. Wires outside the declared ranges, and the rest of the reset word, are random.
 fn frame(random: &mut Random, config: Config, style: &Style) -> Frame {
     let mut frame = [0; 4].map(|_: u32| random.word());
@@ -205,6 +261,10 @@ fn frame(random: &mut Random, config: Config, style: &Style) -> Frame {
     } else if config.is_time() {
         put_bit(&mut frame[1], config.p, 0, random.chance(style.start));
         put_bit(&mut frame[2], config.q, 0, random.chance(style.test));
+    } else if config.is_after_trigger() {
+        put_bit(&mut frame[0], ENABLE, 0, random.chance(style.enable));
+        put_value(&mut frame[1], config.p, tracked_value(random, config, style));
+        put_bit(&mut frame[2], config.q, 0, random.chance(style.start));
     } else {
         for (word, range) in frame[1..].iter_mut().zip([config.p, config.q, config.r]) {
             let value = if random.chance(30) { random.word() } else { random.pick(&style.states) };
@@ -227,6 +287,18 @@ fn plant_attempt(random: &mut Random, config: Config, trace: &mut [u32], s: usiz
     }
 }
 
+/// Writes into the trace a trigger at s and further ones in its window, in its last cycle and in the cycle after it.
+fn plant_triggers(random: &mut Random, config: Config, trace: &mut [u32], s: usize) {
+    let max = config.n as usize;
+    let within = s + random.below(max + 1);
+    for t in [s, within, s + max, s + max + 1] {
+        if t < trace.len() / 4 && (t == s || random.chance(700)) {
+            put_bit(&mut trace[4 * t], ENABLE, 0, true);
+            put_bit(&mut trace[4 * t + 2], config.q, 0, true);
+        }
+    }
+}
+
 pub fn trace(random: &mut Random, config: Config, cycles: usize) -> Vec<u32> {
     if config.refusal() != 0 {
         return random.words(4 * cycles);
@@ -239,6 +311,8 @@ pub fn trace(random: &mut Random, config: Config, cycles: usize) -> Vec<u32> {
     for s in 0..cycles {
         if config.is_sequence() && random.chance(style.planted) {
             plant_attempt(random, config, &mut trace, s);
+        } else if config.is_after_trigger() && random.chance(style.planted) {
+            plant_triggers(random, config, &mut trace, s);
         }
     }
     trace
@@ -247,7 +321,7 @@ pub fn trace(random: &mut Random, config: Config, cycles: usize) -> Vec<u32> {
 /// A trace with the same frames outside a to b−1.
 pub fn edited(random: &mut Random, config: Config, old: &[u32], a: usize, b: usize) -> Vec<u32> {
     let mut new = old.to_vec();
-    match random.below(4) {
+    match random.below(5) {
         0 | 1 => new[4 * a..4 * b].copy_from_slice(&trace(random, config, b - a)),
         2 => {
             for t in a..b {
@@ -256,8 +330,9 @@ pub fn edited(random: &mut Random, config: Config, old: &[u32], a: usize, b: usi
             }
         }
         _ => {
+            let reset_n_or_enable = random.below(2);
             for t in a..b {
-                new[4 * t] ^= u32::from(random.chance(100));
+                new[4 * t] ^= u32::from(random.chance(100)) << reset_n_or_enable;
             }
         }
     }
@@ -274,7 +349,61 @@ pub fn possible_word(random: &mut Random, config: Config) -> u64 {
         }
         2 => random.pick(&[0, 1, 1 << (n - 2), 1 << (any % (n - 1))]),
         3..=5 => random.pick(&[0, 1, 1, n, n - 1, any % (n + 1)]),
+        7 => {
+            // The next cycle is the first one tested, or the one after it or before it.
+            let from_min = (n + 1 - u64::from(config.min)).min(n);
+            random.pick(&[0, 1.min(n), n, from_min, from_min.saturating_sub(1), (from_min + 1).min(n), any % (n + 1)])
+        }
+        8 => possible_stability_word(random, config),
         _ => random.pick(&[0, 1 << 32 | any & ((1 << config.p.width()) - 1), (1 << 32) + ((1 << config.p.width()) - 1)]),
+    }
+}
+
+/// A word of a window with a reference or without one, with as many cycles left as can be, one, or any number.
+fn possible_stability_word(random: &mut Random, config: Config) -> u64 {
+    let (min, max) = (u64::from(config.min), u64::from(config.n));
+    let any = random.next();
+    let mut words = vec![0];
+    if min > 0 {
+        // Also where the next cycle is the first that can be the reference.
+        words.extend([1, max, max - min + 1, 1 + any % max]);
+    }
+    if max > min {
+        let greatest = u64::MAX >> (64 - config.p.width());
+        let reference = random.pick(&[0, greatest, greatest, any >> 32 & greatest, any >> 32 & greatest]);
+        let left = random.pick(&[1, max - min, 1 + any % (max - min)]);
+        words.extend([with_reference(left, reference); 4]);
+    }
+    random.pick(&words)
+}
+
+/// A kind 8 word just beyond one of the limits, or one with a bit where none can be.
+fn impossible_stability_word(random: &mut Random, config: Config) -> u64 {
+    let (min, max) = (u64::from(config.min), u64::from(config.n));
+    let any = random.next();
+    let above = 1 << config.p.width();
+    let fits = any >> 32 & (above - 1);
+    let mut words = vec![max + 1, with_reference(0, fits), with_reference(max - min + 1, fits)];
+    words.extend([with_reference(1, above); 2]);
+    // Without a reference, where min is 0.
+    words.extend([1, 1, max, max]);
+    if random.chance(300) {
+        let (above_max, above_reference) = (1 << (11 + any % 5), 1 << (49 + any % 15));
+        words = vec![max + 2, 1 << 16 | 1, fits << 16 | 1, u64::MAX, any | 1 << 50, with_reference(max, fits)];
+        words.extend([with_reference(1, fits) | above_max, with_reference(1, fits) | above_reference]);
+        words.push(with_reference(1, above + fits));
+    }
+    words.retain(|word| !config.possible(*word));
+    random.pick(&words)
+}
+
+/// The word made one that passes with this frame, where it holds a value to compare with: that is hit seldom by chance.
+pub fn passing_word(config: Config, frame: Frame, word: u64) -> u64 {
+    let tested = u64::from(config.p.value(frame[1]));
+    match config.kind {
+        6 if word != 0 => 1 << 32 | tested,
+        8 if reference_in(word).is_some() => with_reference(cycles_left_in(word), tested),
+        _ => word,
     }
 }
 
@@ -285,6 +414,8 @@ pub fn impossible_word(random: &mut Random, config: Config) -> u64 {
         0 | 1 => random.pick(&[1 << (n - 1), 1 << n, u64::MAX, any | 1 << 40, (1 << (n - 1)) + 1]),
         2 => random.pick(&[1 << (n - 1), 3 << (n - 2), 1 << n, u64::MAX, 1 << 63 | 1, if n > 2 { 3 } else { 2 }]),
         3..=5 => random.pick(&[n + 1, n + 2, u64::MAX, 1 << 32 | 1, any | 1 << 20]),
+        7 => random.pick(&[n + 1, n + 1, n + 2, u64::MAX, with_reference(1.min(n), 0), any | 1 << 20]),
+        8 => impossible_stability_word(random, config),
         _ => {
             let above = (1 << 32) + (1u64 << config.p.width());
             random.pick(&[1, (1 << 32) - 1, 1 << 33, above, u64::MAX, any | 1 << 50])

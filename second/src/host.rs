@@ -5,29 +5,39 @@ use crate::rules::{Config, Edit, Frame};
 use std::fmt::Debug;
 use std::sync::atomic::{AtomicUsize, Ordering};
 
-/// `struct selvedgeon_config`: six range bytes follow n, each range a left and a right byte.
+/// `struct selvedgeon_config`: six range bytes follow n, each range a left and a right byte; then min and the value of §4.
 #[repr(C)]
 #[derive(Clone, Copy, Debug, PartialEq)]
 struct HostConfig {
     kind: u8,
     n: u32,
     ranges: [u8; 6],
+    min: u32,
+    value: u32,
+}
+
+impl HostConfig {
+    fn new(c: &Config) -> HostConfig {
+        let ranges = [c.p.left, c.p.right, c.q.left, c.q.right, c.r.left, c.r.right];
+        HostConfig { kind: c.kind, n: c.n, ranges, min: c.min, value: c.value }
+    }
 }
 
 #[rustfmt::skip]
 extern "C" {
     fn selvedgeon_step(kind: u8, n: u32, p_left: u8, p_right: u8, q_left: u8, q_right: u8, r_left: u8, r_right: u8,
-        reset: u32, p: u32, q: u32, r: u32, word: *mut u8, word_len: usize) -> u32;
+        min: u32, value: u32, reset: u32, p: u32, q: u32, r: u32, word: *mut u8, word_len: usize) -> u32;
     fn selvedgeon_check(kind: u8, n: u32, p_left: u8, p_right: u8, q_left: u8, q_right: u8, r_left: u8, r_right: u8,
-        trace: *const u32, trace_len: usize, rows: *mut u32, rows_len: usize, words: *mut u64, words_len: usize) -> u32;
+        min: u32, value: u32, trace: *const u32, trace_len: usize, rows: *mut u32, rows_len: usize,
+        words: *mut u64, words_len: usize) -> u32;
     fn selvedgeon_recheck(kind: u8, n: u32, p_left: u8, p_right: u8, q_left: u8, q_right: u8, r_left: u8, r_right: u8,
-        trace: *const u32, trace_len: usize, rows: *mut u32, rows_len: usize, words: *mut u64, words_len: usize,
-        a: u64, b: u64, answer: *mut i32, answer_len: usize) -> u32;
+        min: u32, value: u32, trace: *const u32, trace_len: usize, rows: *mut u32, rows_len: usize,
+        words: *mut u64, words_len: usize, a: u64, b: u64, answer: *mut i32, answer_len: usize) -> u32;
     fn selvedgeon_totals(rows: *const u32, rows_len: usize, counts: *mut u32, counts_len: usize) -> u32;
     fn selvedgeon_failures(kind: u8, n: u32, p_left: u8, p_right: u8, q_left: u8, q_right: u8, r_left: u8, r_right: u8,
-        trace: *const u32, trace_len: usize, list: *mut u32, list_len: usize) -> u64;
+        min: u32, value: u32, trace: *const u32, trace_len: usize, list: *mut u32, list_len: usize) -> u64;
     fn selvedgeon_open_count(kind: u8, n: u32, p_left: u8, p_right: u8, q_left: u8, q_right: u8, r_left: u8, r_right: u8,
-        word: u64) -> u32;
+        min: u32, value: u32, word: u64) -> u32;
     fn selvedgeon_first_failure(checkers: u64, cycles: u64, rows: *const u32, rows_len: usize) -> u64;
     fn selvedgeon_bench(table: *const HostConfig, table_len: usize, frames: *const u32, frames_len: usize,
         words: *mut u64, words_len: usize, rows: *mut u32, rows_len: usize) -> u32;
@@ -52,7 +62,8 @@ impl Entry for u64 {
     const GUARD: u64 = 0x5ea1_ed01_0bad_f00d;
 }
 impl Entry for HostConfig {
-    const GUARD: HostConfig = HostConfig { kind: 0xa5, n: 0x5ea1_ed01, ranges: [0xa5; 6] };
+    const GUARD: HostConfig =
+        HostConfig { kind: 0xa5, n: 0x5ea1_ed01, ranges: [0xa5; 6], min: 0x5ea1_ed01, value: 0x5ea1_ed01 };
 }
 
 /// Counts the empty buffers: every second one is lent as a null pointer, which the header allows.
@@ -114,7 +125,8 @@ pub fn step(c: Config, frame: Frame, word: &mut [u8]) -> Result<u32, String> {
     // SAFETY: pointer and length are those of a live buffer that no other reference uses; so in every call below.
     #[rustfmt::skip]
     let answer = unsafe {
-        selvedgeon_step(c.kind, c.n, c.p.left, c.p.right, c.q.left, c.q.right, c.r.left, c.r.right, reset, p, q, r, pointer, len)
+        selvedgeon_step(c.kind, c.n, c.p.left, c.p.right, c.q.left, c.q.right, c.r.left, c.r.right, c.min, c.value,
+            reset, p, q, r, pointer, len)
     };
     bytes.give_back(word)?;
     Ok(answer)
@@ -124,7 +136,7 @@ pub fn check(c: Config, trace: &[u32], rows: &mut [u32], words: &mut [u64]) -> R
     let (mut t, mut r, mut w) = (Lent::new("trace", trace), Lent::new("rows", rows), Lent::new("words", words));
     #[rustfmt::skip]
     let answer = unsafe {
-        selvedgeon_check(c.kind, c.n, c.p.left, c.p.right, c.q.left, c.q.right, c.r.left, c.r.right,
+        selvedgeon_check(c.kind, c.n, c.p.left, c.p.right, c.q.left, c.q.right, c.r.left, c.r.right, c.min, c.value,
             t.pointer(), t.len(), r.pointer(), r.len(), w.pointer(), w.len())
     };
     t.is_unchanged(trace)?;
@@ -139,7 +151,7 @@ pub fn recheck(edit: &Edit, rows: &mut [u32], words: &mut [u64], answer: &mut [i
     let (mut r, mut w, mut x) = (Lent::new("rows", rows), Lent::new("words", words), Lent::new("answer", answer));
     #[rustfmt::skip]
     let refusal = unsafe {
-        selvedgeon_recheck(c.kind, c.n, c.p.left, c.p.right, c.q.left, c.q.right, c.r.left, c.r.right,
+        selvedgeon_recheck(c.kind, c.n, c.p.left, c.p.right, c.q.left, c.q.right, c.r.left, c.r.right, c.min, c.value,
             t.pointer(), t.len(), r.pointer(), r.len(), w.pointer(), w.len(), edit.a, edit.b, x.pointer(), x.len())
     };
     t.is_unchanged(edit.trace)?;
@@ -161,7 +173,7 @@ pub fn failures(c: Config, trace: &[u32], list: &mut [u32]) -> Result<u64, Strin
     let (mut t, mut l) = (Lent::new("trace", trace), Lent::new("list", list));
     #[rustfmt::skip]
     let answer = unsafe {
-        selvedgeon_failures(c.kind, c.n, c.p.left, c.p.right, c.q.left, c.q.right, c.r.left, c.r.right,
+        selvedgeon_failures(c.kind, c.n, c.p.left, c.p.right, c.q.left, c.q.right, c.r.left, c.r.right, c.min, c.value,
             t.pointer(), t.len(), l.pointer(), l.len())
     };
     t.is_unchanged(trace)?;
@@ -173,7 +185,8 @@ pub fn open_count(c: Config, word: u64) -> u32 {
     // SAFETY: numbers only.
     #[rustfmt::skip]
     let answer = unsafe {
-        selvedgeon_open_count(c.kind, c.n, c.p.left, c.p.right, c.q.left, c.q.right, c.r.left, c.r.right, word)
+        selvedgeon_open_count(c.kind, c.n, c.p.left, c.p.right, c.q.left, c.q.right, c.r.left, c.r.right, c.min, c.value,
+            word)
     };
     answer
 }
@@ -186,8 +199,7 @@ pub fn first_failure(checkers: u64, cycles: u64, rows: &[u32]) -> Result<u64, St
 }
 
 pub fn bench(table: &[Config], frames: &[u32], words: &mut [u64], rows: &mut [u32]) -> Result<u32, String> {
-    let ranges = |c: &Config| [c.p.left, c.p.right, c.q.left, c.q.right, c.r.left, c.r.right];
-    let table: Vec<_> = table.iter().map(|c| HostConfig { kind: c.kind, n: c.n, ranges: ranges(c) }).collect();
+    let table: Vec<_> = table.iter().map(HostConfig::new).collect();
     let (mut t, mut f) = (Lent::new("table", &table), Lent::new("frames", frames));
     let (mut w, mut r) = (Lent::new("words", words), Lent::new("rows", rows));
     #[rustfmt::skip]

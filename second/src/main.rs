@@ -1,5 +1,5 @@
-//! A second program for the rules of document 01 with §2 of document 02, and a comparison of the library with it on many
-//! inputs.
+//! A second program for the rules of document 01 with §2 and §4 of document 02, and a comparison of the library with it on
+//! many inputs.
 //!
 //! SEED=n sets the seed; CASES=n or SECONDS=n how long to run; CASE=n runs one case alone.
 
@@ -10,6 +10,7 @@ mod rules;
 mod small;
 mod tally;
 mod whiteboard;
+mod windows;
 
 use cases::{Case, Size};
 use std::process::ExitCode;
@@ -87,8 +88,7 @@ fn compare_all(seed: u64) -> Result<String, String> {
         run_case(seed, case, &mut tally)?;
         return Ok(format!("second: case {case}, seed {seed}, equal"));
     }
-    let lines = whiteboard::compare()?;
-    println!("whiteboard table: {lines} cases and the examples under it, all as in the document");
+    println!("{}", whiteboard::compare()?);
     println!("small inputs: {}, all equal\n", small::compare()?);
     let cases = run(seed, &mut tally)?;
     tally.print();

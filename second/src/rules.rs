@@ -1,11 +1,13 @@
-//! The rules of document 01, with §2 of document 02, as a search over starts. A full check looks, for every cycle, for the
-//! starts that matter in it; a step from an open word builds a trace that leaves this word and asks the same search about
-//! its last cycle. The sentence that a function follows is quoted above it, from document 01 where no other is named.
+//! The rules of document 01, with §2 and §4 of document 02, as a search over starts. A full check looks, for every cycle,
+//! for the starts that matter in it; a step from an open word builds a trace that leaves this word and asks the same search
+//! about its last cycle. The sentence that a function follows is quoted above it, from document 01 where no other is named.
 
 pub const MARKS: [u32; 5] = [1, 2, 4, 8, 16];
 pub const MOST_CYCLES: usize = 65_536;
 pub const MOST_CHECKERS: usize = 64;
 const STORED: u64 = 1 << 32;
+const HELD: u64 = 1 << 48;
+const REFERENCE_SHIFT: u32 = 16;
 
 pub type Frame = [u32; 4];
 
@@ -15,6 +17,7 @@ pub struct Range {
     pub right: u8,
 }
 
+/// §4: "n is max; min and the expected value are constants of the configuration, 0 where unused"
 #[derive(Clone, Copy, Debug, PartialEq, Eq)]
 pub struct Config {
     pub kind: u8,
@@ -22,6 +25,8 @@ pub struct Config {
     pub p: Range,
     pub q: Range,
     pub r: Range,
+    pub min: u32,
+    pub value: u32,
 }
 
 impl Range {
@@ -43,6 +48,11 @@ impl Range {
     pub fn value(self, word: u32) -> u32 {
         (0..self.width()).map(|k| (word >> self.wire(k) & 1) << k).sum()
     }
+
+    /// A word with this value on the wires of the range, and 0 on the others.
+    pub fn wires(self, value: u32) -> u32 {
+        (0..self.width()).map(|k| (value >> k & 1) << self.wire(k)).sum()
+    }
 }
 
 impl Config {
@@ -54,37 +64,69 @@ impl Config {
         (3..=5).contains(&self.kind)
     }
 
-    /// The limits of n in the table of kinds.
+    /// The value check (7) and the stability check (8) of §4.
+    pub fn is_after_trigger(self) -> bool {
+        matches!(self.kind, 7 | 8)
+    }
+
+    /// The limits of n in the table of kinds; §4: "max above 1,024, is refusal 2".
     pub fn limits(self) -> (u32, u32) {
         if self.is_sequence() {
             (2, 32)
         } else if self.is_time() {
             (1, 1024)
+        } else if self.is_after_trigger() {
+            (0, 1024)
         } else {
             (0, 0)
         }
     }
 
-    /// The ports column of the table of kinds; None is an unused port.
+    /// §4: "Min above max […] is refusal 2"; "0 where unused (else refusal 2 for min […])".
+    fn greatest_min(self) -> u32 {
+        if self.is_after_trigger() {
+            self.n
+        } else {
+            0
+        }
+    }
+
+    /// The ports column of the table of kinds; None is an unused port. §4: "on 1 to 32 wires"; "P is the tracked value, Q
+    /// the trigger (width 1)".
     fn widths_due(self) -> [Option<u32>; 3] {
         if self.is_sequence() {
             [Some(self.n), None, None]
         } else if self.is_time() {
             [Some(1), Some(1), None]
+        } else if self.is_after_trigger() {
+            [Some(self.p.width()), Some(1), None]
         } else {
             [Some(self.p.width()); 3]
         }
     }
 
-    /// Refusals 1 to 3: "kind above 6", "n outside its limits", "index above 31, wrong width, or unused port not 0:0".
+    fn ports_are_right(self) -> bool {
+        [self.p, self.q, self.r].into_iter().zip(self.widths_due()).all(|(port, due)| port_is_right(port, due))
+    }
+
+    /// §4: "0 where unused (else […] 3 for the value, also 3 when it does not fit P)". Stability expects no value.
+    fn value_is_right(self) -> bool {
+        if self.kind == 7 {
+            u64::from(self.value) < 1 << self.p.width()
+        } else {
+            self.value == 0
+        }
+    }
+
+    /// Refusals 1 to 3: "n outside its limits", "index above 31, wrong width, or unused port not 0:0"; §4 adds min to 2 and
+    /// the value to 3, and: "Kinds 7 and 8, so refusal 1 starts at 9."
     pub fn refusal(self) -> u32 {
         let (least, most) = self.limits();
-        let ports = [self.p, self.q, self.r];
-        if self.kind > 6 {
+        if self.kind > 8 {
             1
-        } else if self.n < least || self.n > most {
+        } else if self.n < least || self.n > most || self.min > self.greatest_min() {
             2
-        } else if !ports.iter().zip(self.widths_due()).all(|(&port, due)| port_is_right(port, due)) {
+        } else if !self.ports_are_right() || !self.value_is_right() {
             3
         } else {
             0
@@ -92,15 +134,43 @@ impl Config {
     }
 
     /// "A word is possible when: kinds 0 and 1, below 2^(n−1); kind 2, also at most one bit set; kinds 3 to 5, at most n;
-    /// kind 6, 0 or 2^32 plus a value that fits the width."
+    /// kind 6, 0 or 2^32 plus a value that fits the width." §4: "The open word is the cycles left to s+max"; "A word is
+    /// possible exactly when some trace leaves it."
     pub fn possible(self, word: u64) -> bool {
         match self.kind {
             0 | 1 => word < 1 << (self.n - 1),
             2 => word == 0 || (0..self.n - 1).any(|j| word == 1 << j),
-            3..=5 => word <= u64::from(self.n),
+            3..=5 | 7 => word <= u64::from(self.n),
+            8 => word == 0 || self.possible_stability_window(word),
             _ => word == 0 || (STORED..STORED + (1 << self.p.width())).contains(&word),
         }
     }
+
+    /// A trigger is seen only where enable is 1, so with min 0 the reference is there from s on, and a window without one
+    /// needs a min above 0. It can then last to the end, where enable stays 0. A reference is there from s+min at the
+    /// earliest, with max−min cycles left.
+    fn possible_stability_window(self, word: u64) -> bool {
+        let (min, max) = (u64::from(self.min), u64::from(self.n));
+        match reference_in(word) {
+            None => min > 0 && (1..=max).contains(&word),
+            Some(r) => r < 1 << self.p.width() && (1..=max - min).contains(&cycles_left_in(word)),
+        }
+    }
+}
+
+/// §4: "an open kind 8 window that holds a reference r adds 2^48 plus r times 2^16"
+pub fn with_reference(left: u64, r: u64) -> u64 {
+    left + HELD + (r << REFERENCE_SHIFT)
+}
+
+/// The reference in a kind 8 word; in an impossible word it can have more than 32 bits.
+pub fn reference_in(word: u64) -> Option<u64> {
+    Some(word.checked_sub(HELD)? >> REFERENCE_SHIFT)
+}
+
+/// The cycles left in a kind 8 word with a reference.
+pub fn cycles_left_in(word: u64) -> u64 {
+    word % (1 << REFERENCE_SHIFT)
 }
 
 /// "A port has a declared range left:right, each 0 to 31"; "An unused port must be 0:0."
@@ -148,6 +218,10 @@ struct History {
     attempts: Vec<Attempt>,
     /// Time: the cycles from which n pending cycles were counted.
     counted: Vec<usize>,
+    /// §4: "Enable is reset word bit 1."
+    enable: Vec<bool>,
+    /// §4: the accepted triggers.
+    triggers: Vec<usize>,
 }
 
 impl History {
@@ -161,6 +235,8 @@ impl History {
             running: Vec::new(),
             attempts: Vec::new(),
             counted: Vec::new(),
+            enable: trace.chunks_exact(4).map(|frame| frame[0] >> 1 & 1 == 1).collect(),
+            triggers: Vec::new(),
         };
         for frame in trace.chunks_exact(4) {
             let before = history.running.last().copied().unwrap_or(0);
@@ -180,6 +256,8 @@ impl History {
             self.attempts.push(attempt);
         } else if self.config.is_time() && self.counts_from(s) {
             self.counted.push(s);
+        } else if self.config.is_after_trigger() && self.accepts_trigger(s) {
+            self.triggers.push(s);
         }
     }
 
@@ -195,6 +273,8 @@ impl History {
             self.sequence(t)
         } else if self.config.is_time() {
             self.time(t)
+        } else if self.config.is_after_trigger() {
+            self.after_trigger(t)
         } else {
             self.transition(t)
         }
@@ -310,6 +390,58 @@ impl History {
             ..Verdict::default()
         }
     }
+
+    /// §4: "A cycle with enable 0 counts towards the delay, but nothing is tested and no trigger seen"; "after an accepted
+    /// trigger at s every trigger in s+1 to s+max, the cycles before s+min included, is ignored."
+    fn accepts_trigger(&self, s: usize) -> bool {
+        self.enable[s] && self.q[s] == 1 && self.window(s).is_none()
+    }
+
+    /// The accepted trigger s with t in s to s+max. There is one at most: the next accepted trigger is above s+max, or
+    /// behind a reset.
+    fn window(&self, t: usize) -> Option<usize> {
+        let so_far = self.triggers.partition_point(|&s| s <= t);
+        let s = *self.triggers[..so_far].last()?;
+        (t - s <= self.config.n as usize && self.no_reset(s, t)).then_some(s)
+    }
+
+    /// §4: "A failure does not end the window"; "Marks are 1, 4 at the trigger, 8 at s+max. The listed start is the trigger
+    /// cycle."
+    fn after_trigger(&self, t: usize) -> Verdict {
+        let Some(s) = self.window(t) else { return Verdict::default() };
+        Verdict {
+            failed: if self.is_violated(s, t) { vec![s] } else { Vec::new() },
+            opened: t == s,
+            closed: t == s + self.config.n as usize,
+            word: self.window_word(s, t),
+            ..Verdict::default()
+        }
+    }
+
+    /// §4: the value check tests "from min to max cycles after trigger", "Both limits are inclusive"; "Stability compares
+    /// with the first enabled cycle from s+min on." In that cycle itself it compares equal.
+    fn is_violated(&self, s: usize, t: usize) -> bool {
+        let due = if self.config.kind == 7 {
+            (t >= s + self.config.min as usize).then_some(self.config.value)
+        } else {
+            self.reference(s, t)
+        };
+        self.enable[t] && due.is_some_and(|due| self.p[t] != due)
+    }
+
+    /// P of the first enabled cycle from s+min on, if there was one up to t.
+    fn reference(&self, s: usize, t: usize) -> Option<u32> {
+        let mut tested = s + self.config.min as usize..=t;
+        tested.find(|&u| self.enable[u]).map(|u| self.p[u])
+    }
+
+    /// §4: "The open word is the cycles left to s+max; an open kind 8 window that holds a reference r adds 2^48 plus r times
+    /// 2^16." At s+max it is open no more.
+    fn window_word(&self, s: usize, t: usize) -> u64 {
+        let left = (s + self.config.n as usize - t) as u64;
+        let reference = if self.config.kind == 8 && left > 0 { self.reference(s, t) } else { None };
+        reference.map_or(left, |r| with_reference(left, u64::from(r)))
+    }
 }
 
 /// Rows and open words: "entry t is after cycle t".
@@ -349,10 +481,22 @@ fn trace_that_leaves(config: Config, word: u64) -> Vec<u32> {
         trace.extend([1, 0, 1 << config.q.wire(0), 0].repeat(config.n as usize - word as usize));
     } else if config.kind == 6 && word > 0 {
         // Test and start state are 0, so they are equal.
-        let next = word - STORED;
-        let wires = (0..config.r.width()).filter(|k| next >> k & 1 == 1).map(|k| 1u32 << config.r.wire(k)).sum();
-        trace = vec![1, 0, 0, wires];
+        trace = vec![1, 0, 0, config.r.wires((word - STORED) as u32)];
+    } else if config.is_after_trigger() && word > 0 {
+        trace = window_that_leaves(config, word);
     }
+    trace
+}
+
+/// A trigger, then as many cycles as leave this many in the window. With a reference, P has its value and enable is 1 from
+/// the trigger on; without one, enable is 0 after the trigger, so that none is taken.
+fn window_that_leaves(config: Config, word: u64) -> Vec<u32> {
+    let reference = reference_in(word);
+    let left = if reference.is_some() { cycles_left_in(word) } else { word };
+    let p = config.p.wires(reference.unwrap_or(0) as u32);
+    let mut trace = vec![3, p, 1 << config.q.wire(0), 0];
+    let after = if reference.is_some() { 3 } else { 1 };
+    trace.extend([after, p, 0, 0].repeat(config.n as usize - left as usize));
     trace
 }
 
@@ -491,7 +635,7 @@ impl Edit<'_> {
     }
 
     /// "For true kept records, e ≤ b+n−1 for kinds 0 and 1, e ≤ b+n for kind 4, e ≤ b+1 for kind 6. Kinds 2, 3 and 5 have no
-    /// such limit."
+    /// such limit." §4, of kinds 7 and 8: "no limit on e is claimed."
     pub fn latest_end(&self) -> Option<u64> {
         let n = u64::from(self.config.n);
         match self.config.kind {
@@ -526,7 +670,7 @@ pub fn totals(rows: &[u32], counts: &mut [u32]) -> u32 {
 }
 
 /// "three 32-bit words each (cycle, mark 1 or 2, start cycle), ordered by cycle, mark, start"; "A time check's start is where it
-/// was opened or last window reset, a transition's the cycle before."
+/// was opened or last window reset, a transition's the cycle before." §4: "The listed start is the trigger cycle."
 pub fn entries(config: Config, trace: &[u32]) -> Vec<[u32; 3]> {
     let history = History::new(config, trace);
     let mut entries = Vec::new();

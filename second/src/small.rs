@@ -1,4 +1,4 @@
-//! Inputs so small that all of them are compared: configurations, single steps, and short traces.
+//! Inputs so small that all of them are compared: configurations, words at their limits, single steps, and short traces.
 
 use crate::cases::{same, same_entries};
 use crate::generate::{wire, UNUSED};
@@ -7,26 +7,37 @@ use crate::rules::{self, Config, Edit, Range, Record};
 
 type Outcome = Result<(), String>;
 
+fn compare_open_count(config: Config, word: u64) -> Outcome {
+    same("open count", host::open_count(config, word), rules::open_count(config, word))
+        .map_err(|d| format!("{config:?}, word {word:#x}: {d}"))
+}
+
 /// The refusal of a configuration, seen through the open count of word 0, which is always possible.
 fn compare_config(config: Config) -> Outcome {
-    same("open count of word 0", host::open_count(config, 0), rules::open_count(config, 0))
-        .map_err(|d| format!("{config:?}: {d}"))
+    compare_open_count(config, 0)
+}
+
+/// Numbers at and around the limits of n and of min.
+const BOUNDS: [u32; 11] = [0, 1, 2, 3, 31, 32, 33, 1023, 1024, 1025, u32::MAX];
+
+/// A configuration whose ports are right for this kind and n, if any are.
+fn with_right_ports(kind: u8, n: u32) -> Config {
+    let p = if kind <= 2 { Range { left: 0, right: n.clamp(1, 32) as u8 - 1 } } else { wire(3) };
+    let other = if kind == 6 { wire(5) } else { UNUSED };
+    Config { kind, n, p, q: other, r: other, min: 0, value: 0 }
 }
 
 /// Every kind, n at and around its limits, and every range of low numbers for one port while the others are right.
 fn configs() -> Result<u64, String> {
-    let bounds = [0, 1, 2, 3, 31, 32, 33, 1023, 1024, 1025, u32::MAX];
     let indices: Vec<u8> = (0..=34).chain([63, 64, 255]).collect();
     let mut compared = 0;
     for kind in 0..=255 {
-        for n in bounds {
-            let p = if kind <= 2 { Range { left: 0, right: n.clamp(1, 32) as u8 - 1 } } else { wire(3) };
-            let unused = if kind == 6 { wire(5) } else { UNUSED };
-            let right = Config { kind, n, p, q: unused, r: unused };
+        for n in BOUNDS {
+            let right = with_right_ports(kind, n);
             compare_config(right)?;
             compared += 1;
-            // Above 7 the kinds are refused before their ports are looked at; one of them is enough.
-            let ranges = if kind <= 7 { indices.as_slice() } else { &[] };
+            // Above 9 the kinds are refused before their ports are looked at; one of them is enough.
+            let ranges = if kind <= 9 { indices.as_slice() } else { &[] };
             for (&left, &other) in ranges.iter().flat_map(|left| ranges.iter().map(move |right| (left, right))) {
                 let range = Range { left, right: other };
                 compare_config(Config { p: range, ..right })?;
@@ -39,37 +50,73 @@ fn configs() -> Result<u64, String> {
     Ok(compared)
 }
 
-/// Small configurations of every kind, in both directions where a port has more than one wire.
+/// Every kind, n and min at and around their limits, and values at and around the limits of some widths of P.
+fn mins_and_values() -> Result<u64, String> {
+    let ranges = [(3, 3), (4, 3), (3, 4), (30, 0), (0, 30), (31, 0), (0, 31)];
+    let values = [0, 1, 2, 3, 4, (1 << 31) - 1, 1 << 31, (1 << 31) + 1, u32::MAX];
+    let mut compared = 0;
+    for (kind, n) in (0..=9).flat_map(|kind| BOUNDS.map(|n| (kind, n))) {
+        let right = with_right_ports(kind, n);
+        for (min, value) in BOUNDS.iter().flat_map(|&min| values.map(|value| (min, value))) {
+            compare_config(Config { min, value, ..right })?;
+            for (left, right_end) in ranges {
+                compare_config(Config { min, value, p: Range { left, right: right_end }, ..right })?;
+            }
+            compared += 1 + ranges.len() as u64;
+        }
+    }
+    Ok(compared)
+}
+
+/// Small configurations of kinds 0 to 6, in both directions where a port has more than one wire.
 fn small_configs() -> Vec<Config> {
+    let new = |kind, n, p, q, r| Config { kind, n, p, q, r, min: 0, value: 0 };
     let mut configs = Vec::new();
     for kind in 0..=2 {
         for n in 2..=4 {
             let (low, high) = (3, 3 + n as u8 - 1);
-            configs.push(Config { kind, n, p: Range { left: high, right: low }, q: UNUSED, r: UNUSED });
-            configs.push(Config { kind, n, p: Range { left: low, right: high }, q: UNUSED, r: UNUSED });
+            configs.push(new(kind, n, Range { left: high, right: low }, UNUSED, UNUSED));
+            configs.push(new(kind, n, Range { left: low, right: high }, UNUSED, UNUSED));
         }
     }
     for kind in 3..=5 {
-        configs.extend((1..=4).map(|n| Config { kind, n, p: wire(31), q: wire(0), r: UNUSED }));
+        configs.extend((1..=4).map(|n| new(kind, n, wire(31), wire(0), UNUSED)));
     }
-    configs.push(Config { kind: 6, n: 0, p: wire(31), q: wire(0), r: wire(7) });
+    configs.push(new(6, 0, wire(31), wire(0), wire(7)));
     let (p, q, r) = (Range { left: 30, right: 31 }, Range { left: 1, right: 0 }, Range { left: 7, right: 8 });
-    configs.push(Config { kind: 6, n: 0, p, q, r });
+    configs.push(new(6, 0, p, q, r));
     configs
 }
 
-fn on_wires(range: Range, value: u32) -> u32 {
-    (0..range.width()).map(|k| (value >> k & 1) << range.wire(k)).sum()
+/// Kinds 7 and 8 with every min and max up to 3 on one wire, and some on two wires in both directions.
+fn small_windows() -> Vec<Config> {
+    let mut configs = Vec::new();
+    for (min, n) in (0..=3).flat_map(|n| (0..=n).map(move |min| (min, n))) {
+        let window = |kind, value| Config { kind, n, p: wire(31), q: wire(0), r: UNUSED, min, value };
+        configs.extend([window(7, 1), window(8, 0)]);
+        // The other value only turns the wire round, so shorter windows are enough for it.
+        configs.extend((n <= 2).then_some(window(7, 0)));
+    }
+    for (min, n) in [(0, 1), (1, 2)] {
+        for (left, right, value) in [(30, 31, 1), (1, 0, 2)] {
+            let wide = |kind, value| Config { kind, n, p: Range { left, right }, q: wire(7), r: UNUSED, min, value };
+            configs.extend([wide(7, value), wide(8, 0)]);
+        }
+    }
+    configs
 }
 
-/// Every frame that a checker can tell from others, and one with reset_n 0.
+/// Every frame that a checker can tell from others, and one with reset_n 0. Kinds 7 and 8 take no notice of the ports where
+/// enable is 0, nor of enable where reset_n is 0, but a wrong check would: so these are varied too.
 fn all_frames(config: Config) -> Vec<rules::Frame> {
     let values = |range: Range, used: bool| if used { 0..1 << range.width() } else { 0..1 };
+    let resets: &[u32] = if config.is_after_trigger() { &[1, 3] } else { &[1] };
     let mut frames = vec![[!1, u32::MAX, u32::MAX, u32::MAX]];
+    frames.extend(config.is_after_trigger().then_some([0; 4]));
     for p in values(config.p, true) {
         for q in values(config.q, config.kind > 2) {
             for r in values(config.r, config.kind == 6) {
-                frames.push([1, on_wires(config.p, p), on_wires(config.q, q), on_wires(config.r, r)]);
+                frames.extend(resets.iter().map(|&reset| [reset, config.p.wires(p), config.q.wires(q), config.r.wires(r)]));
             }
         }
     }
@@ -77,13 +124,55 @@ fn all_frames(config: Config) -> Vec<rules::Frame> {
 }
 
 fn words_to_try(config: Config) -> Vec<u64> {
-    let low = 0..40;
-    let stored = (1 << 32)..(1 << 32) + 6;
-    low.chain(stored).chain([1 << 33, 1 << 63, u64::MAX]).filter(|word| config.kind == 6 || *word < 40).collect()
+    let mut words: Vec<u64> = (0..40).collect();
+    if config.kind == 6 {
+        words.extend((1 << 32)..(1 << 32) + 6);
+    }
+    if config.is_after_trigger() {
+        words.extend((0..6).flat_map(|r| (0..6).map(move |left| rules::with_reference(left, r))));
+        words.extend([1 << 16 | 1, 1 << 47 | 1, rules::with_reference(1, 1 << 32), rules::with_reference(1, 1) | 1 << 49]);
+    }
+    if config.kind >= 6 {
+        words.extend([1 << 33, 1 << 63, u64::MAX]);
+    }
+    words
 }
 
+/// Words of kinds 7 and 8 at the limits and one beyond, and each of them with one bit turned round.
+fn words_at_limits(config: Config) -> Vec<u64> {
+    let (min, max) = (u64::from(config.min), u64::from(config.n));
+    let greatest = u64::MAX >> (64 - config.p.width());
+    let lefts = [0, 1, max - min, max - min + 1, max, max + 1];
+    let held = |left| [0, 1, greatest, greatest + 1].map(|reference| rules::with_reference(left, reference));
+    let mut words: Vec<u64> = lefts.into_iter().chain(lefts.into_iter().flat_map(held)).collect();
+    let turned: Vec<u64> = words.iter().flat_map(|word| (0..64).map(move |bit| word ^ 1 << bit)).collect();
+    words.extend(turned);
+    words
+}
+
+/// Which words are possible, for windows of all sorts on few wires and on many.
+fn window_words() -> Result<u64, String> {
+    let limits = [(0, 0), (0, 3), (1, 3), (3, 3), (0, 1024), (1, 1024), (1000, 1024), (1024, 1024)];
+    let mut compared = 0;
+    for (width, (min, n)) in [1, 2, 16, 31, 32].into_iter().flat_map(|width| limits.map(|limit| (width, limit))) {
+        let p = Range { left: width - 1, right: 0 };
+        for kind in [7, 8] {
+            let config = Config { kind, n, p, q: wire(9), r: UNUSED, min, value: 0 };
+            for word in words_at_limits(config) {
+                compare_open_count(config, word)?;
+                compared += 1;
+            }
+        }
+    }
+    Ok(compared)
+}
+
+/// Every frame from every word, and the open count of the word.
 fn steps(config: Config) -> Result<u64, String> {
     let mut compared = 0;
+    for word in words_to_try(config) {
+        compare_open_count(config, word)?;
+    }
     for frame in all_frames(config) {
         for word in words_to_try(config) {
             let (mut bytes, mut expected) = (word.to_le_bytes(), word.to_le_bytes());
@@ -97,9 +186,17 @@ fn steps(config: Config) -> Result<u64, String> {
     Ok(compared)
 }
 
+/// The frames that traces are made of: of those of kinds 7 and 8 with enable 0, only the ones with a trigger. The others are
+/// left to the single steps, so that the traces can be longer.
+fn trace_frames(config: Config) -> Vec<rules::Frame> {
+    let mut frames = all_frames(config);
+    frames.retain(|frame| !config.is_after_trigger() || frame[0] & 2 != 0 || frame[2] != 0);
+    frames
+}
+
 /// Every trace of so many cycles that there are at most `most` of them.
 fn all_traces(config: Config, most: usize) -> impl Iterator<Item = Vec<u32>> {
-    let frames = all_frames(config);
+    let frames = trace_frames(config);
     let cycles = (1..).take_while(|&cycles| frames.len().pow(cycles) <= most).last().unwrap_or(1);
     (0..frames.len().pow(cycles)).map(move |number| {
         let frame_of = |t: u32| frames[number / frames.len().pow(t) % frames.len()];
@@ -109,7 +206,7 @@ fn all_traces(config: Config, most: usize) -> impl Iterator<Item = Vec<u32>> {
 
 fn traces(config: Config) -> Result<u64, String> {
     let mut compared = 0;
-    // Enough for 4 cycles of 4 events, and for 6 cycles of start and test.
+    // Enough for 4 cycles of 4 events, for 6 cycles of start and test, and for 5 cycles of a window on one wire.
     let most = if config.is_time() { 20_000 } else { 100_000 };
     for trace in all_traces(config, most) {
         compare_trace(config, &trace).map_err(|d| format!("{config:?}, trace {trace:x?}: {d}"))?;
@@ -123,7 +220,7 @@ fn rechecks(config: Config) -> Result<u64, String> {
     let mut compared = 0;
     for old in all_traces(config, 1_000) {
         let kept = rules::true_record(config, &old);
-        for (t, frame) in (0..old.len() / 4).flat_map(|t| all_frames(config).into_iter().map(move |frame| (t, frame))) {
+        for (t, frame) in (0..old.len() / 4).flat_map(|t| trace_frames(config).into_iter().map(move |frame| (t, frame))) {
             let mut trace = old.clone();
             trace[4 * t..4 * t + 4].copy_from_slice(&frame);
             let edit = Edit { config, trace: &trace, a: t as u64, b: t as u64 + 1 };
@@ -158,14 +255,19 @@ fn compare_trace(config: Config, trace: &[u32]) -> Outcome {
     same_entries("list", &list, &expected)
 }
 
-pub fn compare() -> Result<String, String> {
-    let configs = configs().map_err(|d| format!("all small inputs: {d}"))?;
+fn compare_all() -> Result<String, String> {
+    let configs = configs()? + mins_and_values()?;
+    let words = window_words()?;
     let mut counts = [0; 3];
-    for config in small_configs() {
+    for config in small_configs().into_iter().chain(small_windows()) {
         for (count, compare) in counts.iter_mut().zip([steps, traces, rechecks]) {
-            *count += compare(config).map_err(|d| format!("all small inputs: {d}"))?;
+            *count += compare(config)?;
         }
     }
     let [steps, traces, rechecks] = counts;
-    Ok(format!("{configs} configurations, {steps} steps, {traces} traces, {rechecks} rechecks"))
+    Ok(format!("{configs} configurations, {words} words, {steps} steps, {traces} traces, {rechecks} rechecks"))
+}
+
+pub fn compare() -> Result<String, String> {
+    compare_all().map_err(|d| format!("all small inputs: {d}"))
 }

@@ -1,6 +1,8 @@
 //! What the run has covered: how many cases each call, kind, mark, refusal and situation had. A run that missed one fails.
 
+use crate::windows;
 use std::collections::BTreeMap;
+use std::ops::RangeInclusive;
 
 #[derive(Clone, Copy, PartialEq, Eq, PartialOrd, Ord, Debug)]
 pub enum Call {
@@ -43,6 +45,7 @@ impl Call {
             3 => &[1, 4, 8],
             4 => &[1, 4, 8, 16],
             5 => &[1, 2, 4, 8],
+            7 | 8 => &[1, 4, 8],
             NO_KIND => &[1, 2, 4, 8, 16],
             _ => &[1, 4],
         };
@@ -54,11 +57,13 @@ impl Call {
     }
 }
 
+const KINDS: RangeInclusive<u8> = 0..=8;
+
 /// Stands for the kind in a call that has no configuration.
-pub const NO_KIND: u8 = 7;
+pub const NO_KIND: u8 = 9;
 
 /// The situations that every run has to meet, besides calls, kinds, marks and refusals.
-const SITUATIONS: [&str; 37] = [
+const SITUATIONS: [&str; 65] = [
     "check of 0 cycles",
     "check of 1 cycle",
     "check of 65,536 cycles",
@@ -96,6 +101,34 @@ const SITUATIONS: [&str; 37] = [
     "first failure refused 65,537 cycles",
     "bench, several bad checkers",
     "bench, bad checker last of 64",
+    "kind 9 refused",
+    "min refused, one above max",
+    "min refused, kinds 0 to 6",
+    "max refused, 1,025",
+    "value refused, kinds 0 to 6",
+    "value refused, kind 8",
+    "value refused, kind 7, one too large",
+    "value accepted, 2^32-1",
+    "width of Q refused, kinds 7 and 8",
+    "R refused, kinds 7 and 8",
+    "value word, max left",
+    "value word refused, max+1 left",
+    "stability word without a reference, max left",
+    "stability word without a reference refused, min 0",
+    "stability word without a reference refused, max+1 left",
+    "stability word, max-min left",
+    "stability word, greatest reference of 32 wires",
+    "stability word refused, 0 left",
+    "stability word refused, max-min+1 left",
+    "stability word refused, reference one too large",
+    "step, value tested and passed",
+    "step, value not tested, enable 0",
+    "step, stability, reference taken",
+    "step, stability, compared and passed",
+    "recheck, true record, e above b + max, kinds 7 and 8",
+    "recheck goes on with a reference",
+    "recheck goes on before the reference",
+    "failures, start in its own cycle",
 ];
 
 #[derive(Default)]
@@ -104,6 +137,7 @@ pub struct Tally {
     kinds: BTreeMap<(Call, u8), u64>,
     marks: BTreeMap<(Call, u8, u32), u64>,
     situations: BTreeMap<&'static str, u64>,
+    windows: BTreeMap<(u8, &'static str), u64>,
     checkers: BTreeMap<(Call, usize), u64>,
 }
 
@@ -135,6 +169,11 @@ impl Tally {
         *self.situations.entry(name).or_default() += u64::from(met);
     }
 
+    /// A situation of a window of kind 7 or 8; each is counted for either kind.
+    pub fn window(&mut self, kind: u8, name: &'static str, met: bool) {
+        *self.windows.entry((kind, name)).or_default() += u64::from(met);
+    }
+
     fn cases(&self, call: Call) -> u64 {
         self.refusals.iter().filter(|((c, _), _)| *c == call).map(|(_, count)| count).sum()
     }
@@ -144,20 +183,12 @@ impl Tally {
     }
 
     pub fn print(&self) {
-        println!("cases by answer:");
-        print_line("call", (0..=9).map(|no| if no == 0 { "done".into() } else { format!("refused {no}") }), "all");
-        for call in CALLS {
-            let count = |no: u32| match self.refusals.get(&(call, no)) {
-                Some(count) => count.to_string(),
-                None => (if call.refusals().contains(&no) { "MISSED" } else { "-" }).into(),
-            };
-            print_line(&format!("{call:?}"), (0..=9).map(count), &self.cases(call).to_string());
-        }
+        self.print_answers();
         println!("\nchecks done by kind:");
-        print_line("call", (0..=6).map(|kind| format!("kind {kind}")), "");
+        print_line("call", KINDS.map(|kind| format!("kind {kind}")), "");
         for call in CALLS.into_iter().filter(|call| call.has_kind()) {
             let count = |kind: u8| self.kinds.get(&(call, kind)).copied().unwrap_or(0).to_string();
-            print_line(&format!("{call:?}"), (0..=6).map(count), "");
+            print_line(&format!("{call:?}"), KINDS.map(count), "");
         }
         println!("\nrows with each mark (failures: entries; first failure: answers), kinds together:");
         print_line("call", crate::rules::MARKS.iter().map(|mark| format!("mark {mark}")), "");
@@ -169,6 +200,22 @@ impl Tally {
         for (name, count) in &self.situations {
             println!("{count:>9}  {name}");
         }
+        println!("\nchecks with such a window:");
+        for ((kind, name), count) in &self.windows {
+            println!("{count:>9}  kind {kind}, {name}");
+        }
+    }
+
+    fn print_answers(&self) {
+        println!("cases by answer:");
+        print_line("call", (0..=9).map(|no| if no == 0 { "done".into() } else { format!("refused {no}") }), "all");
+        for call in CALLS {
+            let count = |no: u32| match self.refusals.get(&(call, no)) {
+                Some(count) => count.to_string(),
+                None => (if call.refusals().contains(&no) { "MISSED" } else { "-" }).into(),
+            };
+            print_line(&format!("{call:?}"), (0..=9).map(count), &self.cases(call).to_string());
+        }
     }
 
     /// The names of all that had no case.
@@ -177,7 +224,7 @@ impl Tally {
         for call in CALLS {
             let not_given = call.refusals().iter().filter(|no| !self.refusals.contains_key(&(call, **no)));
             missed.extend(not_given.map(|no| format!("{call:?}: answer {no}")));
-            let kinds = if call.has_kind() { 0..=6 } else { NO_KIND..=NO_KIND };
+            let kinds = if call.has_kind() { KINDS } else { NO_KIND..=NO_KIND };
             for kind in kinds {
                 if call.has_kind() && !self.kinds.contains_key(&(call, kind)) {
                     missed.push(format!("{call:?}: kind {kind}"));
@@ -188,6 +235,11 @@ impl Tally {
         }
         let not_met = SITUATIONS.iter().filter(|name| self.situations.get(*name).copied().unwrap_or(0) == 0);
         missed.extend(not_met.map(|name| name.to_string()));
+        for (situation, kind) in windows::SITUATIONS.iter().flat_map(|one| one.kinds.iter().map(move |kind| (one, *kind))) {
+            if self.windows.get(&(kind, situation.name)).copied().unwrap_or(0) == 0 {
+                missed.push(format!("window of kind {kind}: {}", situation.name));
+            }
+        }
         for call in [FirstFailure, Bench] {
             let not_tried = [0, 1, 2, 63, 64, 65].into_iter().filter(|k| !self.checkers.contains_key(&(call, *k)));
             missed.extend(not_tried.map(|k| format!("{call:?}: {k} checkers")));

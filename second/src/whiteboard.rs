@@ -1,6 +1,6 @@
 //! The whiteboard table of document 01 and the examples under it. The numbers are the document's, but for the rows of case
-//! H, which §2 of document 02 changes: "Case H becomes 4 0 20 0 20 0, same words." The library and the rules are both held
-//! against them.
+//! H, which §2 of document 02 changes: "Case H becomes 4 0 20 0 20 0, same words." A second table has cases of kinds 7 and 8,
+//! worked by hand from the sentences of §4. The library and the rules are both held against them.
 
 use crate::generate::{wire, UNUSED};
 use crate::host;
@@ -15,7 +15,7 @@ fn is<T: PartialEq + Debug>(what: &str, given: T, due: T) -> Outcome {
     if given == due {
         return Ok(());
     }
-    Err(format!("{what}: it is {given:?}, the document says {due:?}"))
+    Err(format!("{what}: it is {given:?}, due is {due:?}"))
 }
 
 fn are<T: PartialEq + Debug>(what: &str, given: &[T], due: &[T]) -> Outcome {
@@ -23,7 +23,7 @@ fn are<T: PartialEq + Debug>(what: &str, given: &[T], due: &[T]) -> Outcome {
         return Ok(());
     }
     let different = given.iter().zip(due).position(|(g, d)| g != d);
-    Err(format!("{what}: not as in the document from entry {different:?} on (None: their lengths differ)"))
+    Err(format!("{what}: not what is due from entry {different:?} on (None: their lengths differ)"))
 }
 
 struct Line {
@@ -34,23 +34,37 @@ struct Line {
     words: &'static [u64],
 }
 
+const THREE_WIRES: Range = Range { left: 2, right: 0 };
+
 fn sequence(kind: u8, n: u32, left: u8, right: u8) -> Config {
-    Config { kind, n, p: Range { left, right }, q: UNUSED, r: UNUSED }
+    Config { kind, n, p: Range { left, right }, q: UNUSED, r: UNUSED, min: 0, value: 0 }
 }
 
 fn time(kind: u8, n: u32) -> Config {
-    Config { kind, n, p: wire(0), q: wire(0), r: UNUSED }
+    Config { kind, n, p: wire(0), q: wire(0), r: UNUSED, min: 0, value: 0 }
 }
 
 fn transition() -> Config {
-    let port = Range { left: 2, right: 0 };
-    Config { kind: 6, n: 0, p: port, q: port, r: port }
+    Config { kind: 6, n: 0, p: THREE_WIRES, q: THREE_WIRES, r: THREE_WIRES, min: 0, value: 0 }
+}
+
+fn value(min: u32, max: u32, value: u32) -> Config {
+    Config { kind: 7, n: max, p: THREE_WIRES, q: wire(0), r: UNUSED, min, value }
+}
+
+fn stability(min: u32, max: u32) -> Config {
+    Config { kind: 8, n: max, p: THREE_WIRES, q: wire(0), r: UNUSED, min, value: 0 }
 }
 
 /// Frames with reset_n 1; a port without samples is 0.
 fn frames(p: &[u32], q: &[u32], r: &[u32]) -> Vec<u32> {
     let sample = |port: &[u32], t: usize| port.get(t).copied().unwrap_or(0);
     (0..p.len()).flat_map(|t| [1, p[t], sample(q, t), sample(r, t)]).collect()
+}
+
+/// Frames with reset_n 1, and enable, trigger and tracked value as given.
+fn window_frames([enable, trigger, tracked]: [&[u32]; 3]) -> Vec<u32> {
+    (0..enable.len()).flat_map(|t| [1 + 2 * enable[t], tracked[t], trigger[t], 0]).collect()
 }
 
 const A: [u32; 6] = [8, 4, 10, 5, 2, 1];
@@ -87,6 +101,44 @@ fn other_lines() -> Vec<Line> {
         line("L", transition(), frames(&[3, 3], &[3, 3], &[4, 4]), &[4, 5], &[STORED + 4, STORED + 4]),
     ]
 }
+
+/// The cases of kinds 7 and 8, on P [2:0]; the three rows of samples are enable, trigger and tracked value. Where no cycle is
+/// named as accepted, s is 0.
+///
+/// M: min is 1, so the 2 in cycle 0 is not tested; cycles 1 to 3 have the value 5, and cycle 3 is s+max.
+/// N: wrong in cycles 1 and 3, right in cycle 2 between them; the 4 in cycle 4 is behind the window.
+/// O: enable is 0 in cycle 1, so its 0 is not tested, but it counts: s+max is cycle 3, which is wrong. The trigger in cycle
+///    2 is in the window; in cycle 4 it is not seen, for enable is 0; in cycle 5 it opens a window that stays open.
+/// P: each enabled trigger opens and closes a window of one cycle, also in cycle 1 next to that of cycle 0; in cycle 1 the
+///    value is wrong in the trigger cycle itself; in cycle 4 enable is 0.
+/// Q: s+min is cycle 1, where enable is 0, so the reference is the 6 of cycle 2. In cycle 3 enable is 0, so its 1 is not
+///    compared; the 5 in cycle 4 is, at s+max. The 4 of cycle 1 would have failed cycle 4 too, but is not in the words.
+/// R: min is 0, so the reference is the 3 of cycle 0. The trigger in cycle 2 is at s+max and ignored. The one in cycle 3 is
+///    accepted, with the reference 5, from which the 2 at its s+max differs.
+fn window_lines() -> Vec<Line> {
+    let line = |name, config, samples: [&[u32]; 3], rows, words| {
+        let trace = window_frames(samples);
+        Line { name, config, trace, rows, words }
+    };
+    let m: [&[u32]; 3] = [&[1, 1, 1, 1, 1], &[1, 0, 0, 0, 0], &[2, 5, 5, 5, 0]];
+    let n: [&[u32]; 3] = [&[1, 1, 1, 1, 1], &[1, 0, 0, 0, 0], &[5, 4, 5, 7, 4]];
+    let o: [&[u32]; 3] = [&[1, 0, 1, 1, 0, 1], &[1, 0, 1, 0, 1, 1], &[5, 0, 5, 4, 5, 5]];
+    let p: [&[u32]; 3] = [&[1, 1, 1, 1, 0], &[1, 1, 0, 1, 1], &[5, 4, 4, 5, 4]];
+    let q: [&[u32]; 3] = [&[1, 0, 1, 0, 1, 1], &[1, 0, 0, 0, 0, 0], &[3, 4, 6, 1, 5, 6]];
+    let r: [&[u32]; 3] = [&[1, 1, 1, 1, 1, 1], &[1, 0, 1, 1, 0, 0], &[3, 3, 3, 5, 5, 2]];
+    vec![
+        line("M", value(1, 3, 5), m, &[4, 0, 0, 8, 0], &[3, 2, 1, 0, 0]),
+        line("N", value(1, 3, 5), n, &[4, 1, 0, 9, 0], &[3, 2, 1, 0, 0]),
+        line("O", value(1, 3, 5), o, &[4, 0, 0, 9, 0, 4], &[3, 2, 1, 0, 0, 3]),
+        line("P", value(0, 0, 5), p, &[12, 13, 0, 12, 0], &[0, 0, 0, 0, 0]),
+        line("Q", stability(1, 4), q, &[4, 0, 0, 0, 9, 0], &Q_WORDS),
+        line("R", stability(0, 2), r, &[4, 0, 8, 4, 0, 9], &R_WORDS),
+    ]
+}
+
+/// The reference 6 with 2 cycles left is 2^48 + 6 × 2^16 + 2.
+const Q_WORDS: [u64; 6] = [4, 3, 281_474_977_103_874, 281_474_977_103_873, 0, 0];
+const R_WORDS: [u64; 6] = [281_474_976_907_266, 281_474_976_907_265, 0, 281_474_977_038_338, 281_474_977_038_337, 0];
 
 /// A full check by the library, by the rules, and by single steps of the library.
 fn check_line(line: &Line) -> Outcome {
@@ -169,6 +221,91 @@ fn limits() -> Outcome {
     check_recheck(&edit, &[], &[], &[], [0; 6])
 }
 
+/// The failures of M to R: "The listed start is the trigger cycle."
+fn window_lists(lines: &[Line]) -> Outcome {
+    let lists: [(&str, &[u32]); 6] = [
+        ("M", &[]),
+        ("N", &[1, 1, 0, 3, 1, 0]),
+        ("O", &[3, 1, 0]),
+        ("P", &[1, 1, 1]),
+        ("Q", &[4, 1, 0]),
+        ("R", &[5, 1, 3]),
+    ];
+    for (line, (name, list)) in lines.iter().zip(lists) {
+        is("order of the cases", line.name, name)?;
+        check_list(line.config, &line.trace, list).map_err(|d| format!("case {name}: {d}"))?;
+    }
+    Ok(())
+}
+
+/// Windows of two cycles that stand next to each other, until the first trigger is taken away: then all are a cycle later,
+/// and no word is as it was, to the end of the trace.
+fn window_recheck() -> Outcome {
+    let trace = |trigger: &[u32]| window_frames([&[1; 6], trigger, &[5; 6]]);
+    let (old, new) = (trace(&[1; 6]), trace(&[0, 1, 1, 1, 1, 1]));
+    let config = value(0, 1, 5);
+    are("words before the edit", &rules::true_record(config, &old).words, &[1, 0, 1, 0, 1, 0])?;
+    let edit = Edit { config, trace: &new, a: 0, b: 1 };
+    check_recheck(&edit, &old, &[0, 4, 8, 4, 8, 4], &[0, 1, 0, 1, 0, 1], [6, 0, 0, 0, -1, 0])
+}
+
+/// Configurations of §4 at and beyond each limit, with the refusal that is due.
+fn window_limits() -> Outcome {
+    let nine = Config { kind: 9, ..value(0, 0, 0) };
+    let wide = |expected, width: u8| Config { p: Range { left: 0, right: width - 1 }, ..value(0, 3, expected) };
+    let limits = [
+        (nine, 1),
+        (value(0, 0, 7), 0),
+        (value(1024, 1024, 0), 0),
+        (value(0, 1025, 0), 2),
+        (value(4, 3, 0), 2),
+        (value(1025, 1025, 0), 2),
+        (value(0, 3, 8), 3),
+        (wide(1, 1), 0),
+        (wide(2, 1), 3),
+        (wide(u32::MAX, 32), 0),
+        (stability(0, 0), 0),
+        (stability(1, 0), 2),
+        (Config { value: 1, ..stability(0, 3) }, 3),
+        (Config { min: 1, ..time(3, 3) }, 2),
+        (Config { value: 1, ..time(3, 3) }, 3),
+        (Config { min: 1, value: 1, ..transition() }, 2),
+        (Config { q: Range { left: 1, right: 0 }, ..stability(0, 3) }, 3),
+        (Config { r: wire(1), ..stability(0, 3) }, 3),
+    ];
+    for (config, due) in limits {
+        is(&format!("{config:?} by the library"), host::check(config, &[], &mut [], &mut [])?, due)?;
+        is(&format!("{config:?} by the rules"), config.refusal(), due)?;
+    }
+    Ok(())
+}
+
+/// Words of windows at and beyond each limit, with the answer of open count that is due: 1792 is refusal 7.
+fn window_words() -> Outcome {
+    const HELD: u64 = 1 << 48;
+    let counts = [
+        (value(1, 3, 5), 3, 1),
+        (value(1, 3, 5), 4, 1792),
+        (value(0, 0, 5), 1, 1792),
+        (stability(1, 3), 0, 0),
+        (stability(1, 3), 3, 1),
+        (stability(1, 3), 4, 1792),
+        (stability(0, 3), 3, 1792),
+        (stability(0, 3), HELD + 3, 1),
+        (stability(1, 3), HELD + (7 << 16) + 2, 1),
+        (stability(1, 3), HELD + (7 << 16) + 3, 1792),
+        (stability(1, 3), HELD + (7 << 16), 1792),
+        (stability(1, 3), HELD + (8 << 16) + 2, 1792),
+        (stability(3, 3), HELD + 1, 1792),
+        (value(1, 3, 5), HELD + (5 << 16) + 1, 1792),
+    ];
+    for (config, word, due) in counts {
+        is(&format!("{config:?}, word {word:#x} by the library"), host::open_count(config, word), due)?;
+        is(&format!("{config:?}, word {word:#x} by the rules"), rules::open_count(config, word), due)?;
+    }
+    Ok(())
+}
+
 /// "exact at zero and at plus or minus 65,536": rows that all have every bit become 0, and rows that are 0 become 4.
 fn greatest_changes() -> Outcome {
     let cycles = rules::MOST_CYCLES;
@@ -193,14 +330,23 @@ fn greatest_changes() -> Outcome {
     Ok(())
 }
 
-/// How many of the document's cases were compared.
-pub fn compare() -> Result<usize, String> {
-    let lines: Vec<Line> = sequence_lines().into_iter().chain(other_lines()).collect();
-    for line in &lines {
+/// What was compared, in words.
+pub fn compare() -> Result<String, String> {
+    let document: Vec<Line> = sequence_lines().into_iter().chain(other_lines()).collect();
+    let windows = window_lines();
+    for line in document.iter().chain(&windows) {
         check_line(line).map_err(|d| format!("whiteboard case {}: {d}", line.name))?;
     }
     examples().map_err(|d| format!("examples under the whiteboard table: {d}"))?;
     limits().map_err(|d| format!("limits: {d}"))?;
     greatest_changes().map_err(|d| format!("greatest changes: {d}"))?;
-    Ok(lines.len())
+    window_lists(&windows).map_err(|d| format!("failure list of kinds 7 and 8: {d}"))?;
+    window_recheck().map_err(|d| format!("recheck of kind 7: {d}"))?;
+    window_limits().map_err(|d| format!("limits of kinds 7 and 8: {d}"))?;
+    window_words().map_err(|d| format!("words of kinds 7 and 8: {d}"))?;
+    let (document, windows) = (document.len(), windows.len());
+    Ok(format!(
+        "whiteboard table: {document} cases and the examples under it, all as in the document\n\
+         kinds 7 and 8: {windows} cases, a recheck, limits and words, all as worked by hand"
+    ))
 }

@@ -89,19 +89,20 @@ fn failures(config: &Config, trace: &[u32], record: &Record) -> Vec<[u32; 3]> {
     let (mut opened, mut word) = (0, 0);
     for (t, &row) in record.rows.iter().enumerate() {
         let cycle = t as u32;
+        // Ahead of the entries: a window of kind 7 can fail in the cycle that opens it; kinds 3 to 5 have no entry there.
+        if row & OPENED != 0 {
+            opened = cycle;
+        }
         if row & FAILURE != 0 {
             let starts = match config.kind {
                 0..=2 => failed_attempts(config, cycle, word, trace[4 * t + 1]),
-                3..=5 => vec![opened],
-                _ => vec![cycle - 1],
+                6 => vec![cycle - 1],
+                _ => vec![opened],
             };
             list.extend(starts.into_iter().map(|start| [cycle, FAILURE, start]));
         }
         if row & ILLEGAL != 0 {
             list.push([cycle, ILLEGAL, opened]);
-        }
-        if row & OPENED != 0 {
-            opened = cycle;
         }
         word = record.words[t];
     }

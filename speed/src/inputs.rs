@@ -1,6 +1,6 @@
 //! What is timed: the traces, made from a seed, and the checkers that run over them.
 use crate::engine::{Engine, Plain, Record};
-use crate::plain::{self, Config, Range, FAILURE, ILLEGAL};
+use crate::plain::{self, Config, Port, Range, ENABLE, FAILURE, ILLEGAL};
 use std::rc::Rc;
 
 pub const SEED: u64 = 0x5e17_ed6e_2026;
@@ -15,6 +15,11 @@ const EVENT_WIRES: u32 = 0xffff;
 const START: u8 = 16; // P
 const TEST: u8 = 3; // Q
 const STATES: u8 = 24; // P, Q and R, 8 wires from here up
+const TRACKED: u8 = 17; // P, 7 wires from here up
+const TRIGGER: u8 = 5; // Q
+
+/// What the tracked wires are: first as expected, then with the lowest wire changed, with the highest, with all.
+const TRACKED_VALUES: [u32; 4] = [0x17, 0x16, 0x57, 0x68];
 
 /// So many frames are drawn for a failure that is due, before it waits for the next cycle.
 const MOST_DRAWS: u32 = 64;
@@ -106,16 +111,24 @@ fn alone() -> Vec<(String, Config)> {
     }
     checkers.push(("kind 6, width 8, [31:24]".into(), transition(bus(STATES, 8, false))));
     checkers.push(("kind 6, width 8, [24:31]".into(), transition(bus(STATES, 8, true))));
+    for kind in 7..=8 {
+        checkers.push((format!("kind {kind}, min 4, max 16, [23:17]"), window(kind, 4, 16, bus(TRACKED, 7, false))));
+        checkers.push((format!("kind {kind}, min 4, max 16, [17:23]"), window(kind, 4, 16, bus(TRACKED, 7, true))));
+    }
     checkers
 }
 
 /// All kinds in turn; sizes and directions go round with other periods, so that they are mixed as well.
 fn mixed() -> Vec<Config> {
     (0..BENCH)
-        .map(|k| match k % 7 {
+        .map(|k| match k % 9 {
             kind @ 0..=2 => sequence(kind as u8, bus(EVENTS, [4, 8, 12, 16][k % 4], k % 2 == 1)),
             kind @ 3..=5 => time(kind as u8, [1, 4, 16, 64, 1024][k % 5]),
-            _ => transition(bus(STATES, [2, 4, 8][k % 3], k % 2 == 1)),
+            6 => transition(bus(STATES, [2, 4, 8][k / 9 % 3], k % 2 == 1)),
+            kind => {
+                let (min, max) = [(0, 1), (0, 4), (4, 16), (16, 64), (64, 1024)][k % 5];
+                window(kind as u8, min, max, bus(TRACKED, [1, 4, 7][k / 9 % 3], k % 2 == 1))
+            }
         })
         .collect()
 }
@@ -123,15 +136,20 @@ fn mixed() -> Vec<Config> {
 const UNUSED: Range = Range { left: 0, right: 0 };
 
 fn sequence(kind: u8, events: Range) -> Config {
-    Config { kind, n: events.width(), p: events, q: UNUSED, r: UNUSED }
+    Config { kind, n: events.width(), p: events, q: UNUSED, r: UNUSED, min: 0, value: 0 }
 }
 
 fn time(kind: u8, n: u32) -> Config {
-    Config { kind, n, p: bus(START, 1, false), q: bus(TEST, 1, false), r: UNUSED }
+    Config { kind, n, p: bus(START, 1, false), q: bus(TEST, 1, false), r: UNUSED, min: 0, value: 0 }
 }
 
 fn transition(states: Range) -> Config {
-    Config { kind: 6, n: 0, p: states, q: states, r: states }
+    Config { kind: 6, n: 0, p: states, q: states, r: states, min: 0, value: 0 }
+}
+
+fn window(kind: u8, min: u32, max: u32, tracked: Range) -> Config {
+    let value = if kind == 7 { Port::new(tracked).value(TRACKED_VALUES[0] << TRACKED) } else { 0 };
+    Config { kind, n: max, p: tracked, q: bus(TRIGGER, 1, false), r: UNUSED, min, value }
 }
 
 /// `width` wires from `lowest` up, declared [high:low] or, ascending, [low:high].
@@ -148,15 +166,17 @@ fn bus(lowest: u8, width: u8, ascending: bool) -> Range {
 /// from one cycle later (see `kept_rows`).
 ///
 /// An event is there in 3 cycles of 4, so that attempts live for some cycles and some end well; a start in 1 of 8, a test
-/// in 7 of 8; of 4 states one is the start state, and the next one comes in 7 cycles of 8; reset once in some 1,024.
+/// in 7 of 8; of 4 states one is the start state, and the next one comes in 7 cycles of 8; reset once in some 1,024; enable
+/// in 15 of 16, a trigger in 1 of 8; the tracked value is drawn in 1 of 32, and else the expected one, so that of 4 windows
+/// of 16 cycles about 3 pass.
 fn trace() -> Vec<u32> {
-    let mut generator = Generator(SEED);
+    let mut streams = Streams::new();
     let mut state = 0;
     let mut frames = Vec::with_capacity(4 * (CYCLES + BENCH));
     for _ in 0..CYCLES + BENCH {
-        let frame = generator.frame(state);
+        let frame = streams.frame(state);
         frames.extend(frame);
-        state = generator.state_after(&frame);
+        state = streams.base.state_after(&frame);
     }
     frames
 }
@@ -194,13 +214,13 @@ pub fn kept_rows(config: &Config, trace: &[u32], k: usize) -> Vec<u32> {
 ///
 /// A failure that has come due in a cycle where nothing can fail waits for the next one where something can.
 pub fn list_trace(config: &Config, one_in: Option<u32>) -> Vec<u32> {
-    let mut generator = Generator(SEED);
+    let mut streams = Streams::new();
     let mut cycle = Cycle { frame: [0; 4], word: 0, fails: false };
     let mut due = 0;
     let mut frames = Vec::with_capacity(4 * CYCLES);
     for _ in 0..CYCLES {
-        due += u32::from(one_in.is_some_and(|cycles| generator.word().is_multiple_of(cycles)));
-        cycle = generator.cycle(config, &cycle, due > 0);
+        due += u32::from(one_in.is_some_and(|cycles| streams.base.word().is_multiple_of(cycles)));
+        cycle = streams.cycle(config, &cycle, due > 0);
         due -= u32::from(cycle.fails);
         frames.extend(cycle.frame);
     }
@@ -263,9 +283,39 @@ impl Generator {
         }
     }
 
+    /// Puts enable, trigger and tracked value on their wires of a frame, which has nothing on the tracked ones.
+    fn add_window(&mut self, [reset, p, q, _]: &mut [u32; 4]) {
+        let enabled = !self.word().is_multiple_of(16);
+        let trigger = self.word().is_multiple_of(8);
+        let value = if self.word().is_multiple_of(32) { self.word() as usize % TRACKED_VALUES.len() } else { 0 };
+        *reset = *reset & !(1 << ENABLE) | u32::from(enabled) << ENABLE;
+        *q = *q & !(1 << TRIGGER) | u32::from(trigger) << TRIGGER;
+        *p |= TRACKED_VALUES[value] << TRACKED;
+    }
+}
+
+/// What a trace is drawn from. Enable, trigger and tracked value have a stream of their own, so that the other signals do
+/// not depend on them.
+struct Streams {
+    base: Generator,
+    window: Generator,
+}
+
+impl Streams {
+    fn new() -> Self {
+        Streams { base: Generator(SEED), window: Generator(!SEED) }
+    }
+
+    /// A frame whose test state is the one given.
+    fn frame(&mut self, state: u32) -> [u32; 4] {
+        let mut frame = self.base.frame(state);
+        self.window.add_window(&mut frame);
+        frame
+    }
+
     /// A cycle after `before` that fails or does not, as asked; where none of many draws fails, one that does not.
     fn cycle(&mut self, config: &Config, before: &Cycle, fails: bool) -> Cycle {
-        // Out of the draws that are thrown away: a reset never fails, so it would come too often.
+        // Out of the draws that are thrown away: a cycle in reset or not enabled never fails, so it would come too often.
         let reset = self.frame(0)[0];
         let mut draws = 0;
         loop {
@@ -278,11 +328,11 @@ impl Generator {
     }
 
     fn draw(&mut self, config: &Config, before: &Cycle, reset: u32) -> Cycle {
-        let state = self.state_after(&before.frame);
+        let state = self.base.state_after(&before.frame);
         let mut frame = self.frame(state);
         frame[0] = reset;
         // An event is there in 7 cycles of 8: else too few attempts at 16 events come to the last one, where kind 0 fails.
-        frame[1] |= self.word() & EVENT_WIRES;
+        frame[1] |= self.base.word() & EVENT_WIRES;
         let (mut word, mut row) = ([before.word], [0]);
         plain::bench_step(&[*config], &frame, &mut word, &mut row).expect("every input's configuration is good");
         Cycle { frame, word: word[0], fails: fails(row[0]) }

@@ -80,7 +80,7 @@ fn plan() -> Result<Plan, String> {
 /// Time, yardstick and their ratio for each input; then the time of the other library, and the first one's divided by it.
 fn print_table(table: &Table, libraries: &[Library], plan: Plan) {
     let [time, yardstick] = table.columns;
-    print!("\n{:39} {time:>14} {yardstick:>14} {:>7}", "input", "ratio");
+    print!("\n{:45} {time:>14} {yardstick:>14} {:>7}", "input", "ratio");
     println!("{}", if libraries.len() > 1 { format!(" {:>14} {:>11}", "other", "first/other") } else { String::new() });
     let mut worst: f64 = 0.0;
     for input in &table.inputs {
@@ -88,7 +88,7 @@ fn print_table(table: &Table, libraries: &[Library], plan: Plan) {
         let (first, yardstick) = (times.libraries[0], times.yardstick);
         let ratio = first / yardstick;
         worst = worst.max(ratio);
-        print!("{:39} {first:14.2} {yardstick:14.2} {ratio:7.2}", input.name);
+        print!("{:45} {first:14.2} {yardstick:14.2} {ratio:7.2}", input.name);
         for other in &times.libraries[1..] {
             print!(" {other:14.2} {:11.2}", first / other);
         }

@@ -4,11 +4,12 @@
 //! stepping, where an open word carries all that is unfinished from one cycle to the next, and every cycle is one step from
 //! that word and the cycle's frame alone; the instruction set that both are compiled for (see `speed/run`).
 //!
-//! On both sides a full check looks at the kind once and then runs a loop of its own, and a time step leaves early where
-//! nothing is pending. What differs, as it would in ordinary Rust: `Checker` and `fill` are generic, so there is a loop for
-//! each kind and not for each family; shifts and masks of the ports are worked out before the loop; a bus that is read
-//! against the order of its wires is turned round by `u32::reverse_bits`; the slices are walked by iterators. There is no
-//! proof, and no `unsafe`: the compiler's tests of indices stay where it cannot see that they are not needed.
+//! On both sides a full check looks at the kind once and then runs a loop of its own, and a step of kinds 3 to 5, 7 and 8
+//! leaves early where nothing is open. What differs, as it would in ordinary Rust: `Checker` and `fill` are generic, so
+//! there is a loop for each kind and not for each family; shifts and masks of the ports are worked out before the loop; a
+//! bus that is read against the order of its wires is turned round by `u32::reverse_bits`, and for kind 7 it is the
+//! expected value that is, once before the loop; the slices are walked by iterators. There is no proof, and no `unsafe`:
+//! the compiler's tests of indices stay where it cannot see that they are not needed.
 #![forbid(unsafe_code)]
 
 use std::hint::select_unpredictable;
@@ -20,6 +21,8 @@ const IGNORE_NEW_START: u8 = 3;
 const RESET_ON_NEW_START: u8 = 4;
 const ERROR_ON_NEW_START: u8 = 5;
 const TRANSITION: u8 = 6;
+const VALUE: u8 = 7;
+const STABILITY: u8 = 8;
 
 pub const FAILURE: u32 = 1;
 pub const ILLEGAL: u32 = 2;
@@ -32,6 +35,13 @@ const MOST_CHECKERS: usize = 64;
 
 /// A transition's open word is 0, or this plus the stored next state.
 const STORED: u64 = 1 << 32;
+
+/// A stability window that has its reference adds this to the open word, and the reference from bit `REFERENCE` up.
+const HELD: u64 = 1 << 48;
+const REFERENCE: u32 = 16;
+
+/// The wire of enable in the reset word; wire 0 is reset_n.
+pub const ENABLE: u32 = 1;
 
 /// Four words of 32 wires: reset, P, Q, R.
 type Frame = [u32; 4];
@@ -52,6 +62,10 @@ pub struct Config {
     pub p: Range,
     pub q: Range,
     pub r: Range,
+    /// Kinds 7 and 8: the value is tested from so many cycles after the trigger on.
+    pub min: u32,
+    /// Kind 7: the value that is expected.
+    pub value: u32,
 }
 
 /// Fills the row and the open word of every cycle. An error is the refusal number, 1 to 5.
@@ -73,8 +87,11 @@ pub fn full_check(config: &Config, trace: &[u32], rows: &mut [u32], words: &mut 
         IGNORE_NEW_START => fill(&Time::<IGNORE_NEW_START>::new(config), frames, rows, words),
         RESET_ON_NEW_START => fill(&Time::<RESET_ON_NEW_START>::new(config), frames, rows, words),
         ERROR_ON_NEW_START => fill(&Time::<ERROR_ON_NEW_START>::new(config), frames, rows, words),
-        _ if config.all_descend() => fill(&Transition::<false>::new(config), frames, rows, words),
-        _ => fill(&Transition::<true>::new(config), frames, rows, words),
+        TRANSITION if config.all_descend() => fill(&Transition::<false>::new(config), frames, rows, words),
+        TRANSITION => fill(&Transition::<true>::new(config), frames, rows, words),
+        VALUE => fill(&Value::new(config), frames, rows, words),
+        _ if config.p.ascends() => fill(&Stability::<true>::new(config), frames, rows, words),
+        _ => fill(&Stability::<false>::new(config), frames, rows, words),
     }
     Ok(())
 }
@@ -117,7 +134,10 @@ fn step_of_kind(config: &Config, word: u64, frame: &Frame) -> (u32, u64) {
         IGNORE_NEW_START => step(&Time::<IGNORE_NEW_START>::new(config), word, frame),
         RESET_ON_NEW_START => step(&Time::<RESET_ON_NEW_START>::new(config), word, frame),
         ERROR_ON_NEW_START => step(&Time::<ERROR_ON_NEW_START>::new(config), word, frame),
-        _ => step(&Transition::<true>::new(config), word, frame),
+        TRANSITION => step(&Transition::<true>::new(config), word, frame),
+        VALUE => step(&Value::new(config), word, frame),
+        _ if config.p.ascends() => step(&Stability::<true>::new(config), word, frame),
+        _ => step(&Stability::<false>::new(config), word, frame),
     }
 }
 
@@ -227,19 +247,128 @@ impl<const TURNS: bool> Checker for Transition<TURNS> {
     }
 }
 
+/// Kinds 7 and 8: a trigger opens a window that ends `max` cycles later and is tested from `min` cycles later on.
+struct Window {
+    trigger: u32,
+    max: u64,
+    /// A cycle is tested where so many are left after it, or fewer.
+    tested: u64,
+}
+
+impl Window {
+    fn new(config: &Config) -> Self {
+        // A port of one wire: either end is that wire.
+        Self { trigger: config.q.left.into(), max: config.n.into(), tested: (config.n - config.min).into() }
+    }
+
+    /// Whether the cycle opens a window, where none is open. One test for both wires: the processor can guess neither.
+    fn opens(&self, frame: &Frame) -> bool {
+        frame[0] >> ENABLE & frame[2] >> self.trigger & 1 != 0
+    }
+
+    /// Whether a cycle of an open window is tested, where so many are left after it.
+    fn tests(&self, left: u64, frame: &Frame) -> bool {
+        (left <= self.tested) & is_enabled(frame)
+    }
+}
+
+fn is_enabled(frame: &Frame) -> bool {
+    frame[0] >> ENABLE & 1 != 0
+}
+
+/// Kind 7. The open word is the number of cycles left.
+struct Value {
+    window: Window,
+    /// The tracked wires, and those of them that are 1 in the expected value: so no cycle has to put its wires in order.
+    tracked: u32,
+    expected: u32,
+}
+
+impl Value {
+    fn new(config: &Config) -> Self {
+        let port = Port::new(config.p);
+        Self { window: Window::new(config), tracked: port.wires(port.mask), expected: port.wires(config.value) }
+    }
+
+    fn row(&self, left: u64, frame: &Frame) -> u32 {
+        let failure = self.window.tests(left, frame) & (frame[1] & self.tracked != self.expected);
+        mark(failure, FAILURE) | mark(left == 0, CLOSED)
+    }
+}
+
+impl Checker for Value {
+    fn step(&self, word: u64, frame: &Frame) -> (u32, u64) {
+        if word == 0 {
+            let max = self.window.max;
+            return if self.window.opens(frame) { (OPENED | self.row(max, frame), max) } else { (0, 0) };
+        }
+        let left = word - 1;
+        (self.row(left, frame), left)
+    }
+}
+
+/// Kind 8. The open word is the number of cycles left and, once there is a reference, `HELD` and the reference above it.
+/// It has one bus, so there is a loop for each direction.
+struct Stability<const ASCENDING: bool> {
+    window: Window,
+    tracked: Port,
+}
+
+impl<const ASCENDING: bool> Stability<ASCENDING> {
+    fn new(config: &Config) -> Self {
+        Self { window: Window::new(config), tracked: Port::new(config.p) }
+    }
+
+    fn value(&self, frame: &Frame) -> u32 {
+        self.tracked.descending(if ASCENDING { frame[1].reverse_bits() } else { frame[1] })
+    }
+
+    /// The word after a cycle of a window that had no reference before it: it is the reference if it is tested.
+    fn first_word(&self, left: u64, frame: &Frame) -> u64 {
+        if self.window.tests(left, frame) & (left != 0) {
+            HELD | u64::from(self.value(frame)) << REFERENCE | left
+        } else {
+            left
+        }
+    }
+}
+
+impl<const ASCENDING: bool> Checker for Stability<ASCENDING> {
+    fn step(&self, word: u64, frame: &Frame) -> (u32, u64) {
+        if word == 0 {
+            let max = self.window.max;
+            let row = OPENED | mark(max == 0, CLOSED);
+            return if self.window.opens(frame) { (row, self.first_word(max, frame)) } else { (0, 0) };
+        }
+        let next = word - 1;
+        let closed = next as u16 == 0;
+        if word < HELD {
+            return (mark(closed, CLOSED), self.first_word(next, frame));
+        }
+        // A window that has its reference is tested to its end.
+        let changed = self.value(frame) != (word >> REFERENCE) as u32;
+        let failure = mark(is_enabled(frame) & changed, FAILURE);
+        if closed {
+            (failure | CLOSED, 0)
+        } else {
+            (failure, next)
+        }
+    }
+}
+
 fn mark(set: bool, mark: u32) -> u32 {
     u32::from(set) * mark
 }
 
 /// How a port is read from its word of wires.
-struct Port {
+pub struct Port {
     ascending: bool,
     shift: u32,
     mask: u32,
 }
 
 impl Port {
-    fn new(range: Range) -> Self {
+    pub fn new(range: Range) -> Self {
         let mask = u32::MAX >> (32 - range.width());
         let right = u32::from(range.right);
         if range.left >= range.right {
@@ -250,24 +379,38 @@ impl Port {
         }
     }
 
-    fn value(&self, wires: u32) -> u32 {
+    pub fn value(&self, wires: u32) -> u32 {
         self.descending(if self.ascending { wires.reverse_bits() } else { wires })
     }
 
     fn descending(&self, wires: u32) -> u32 {
         wires >> self.shift & self.mask
     }
+
+    /// The wires that are 1 where the port has that value and all other wires are 0.
+    fn wires(&self, value: u32) -> u32 {
+        let wires = value << self.shift;
+        if self.ascending {
+            wires.reverse_bits()
+        } else {
+            wires
+        }
+    }
 }
 
 impl Config {
     fn all_descend(&self) -> bool {
-        [self.p, self.q, self.r].iter().all(|range| range.left >= range.right)
+        [self.p, self.q, self.r].iter().all(|range| !range.ascends())
     }
 }
 
 impl Range {
     pub fn width(self) -> u32 {
         u32::from(self.left.abs_diff(self.right)) + 1
+    }
+
+    fn ascends(self) -> bool {
+        self.left < self.right
     }
 
     fn is_unused(self) -> bool {
@@ -281,22 +424,28 @@ impl Range {
 
 /// Refusals 1 to 3.
 fn test_config(config: &Config) -> Result<(), u32> {
-    let &Config { kind, n, p, q, r } = config;
+    let &Config { kind, n, p, q, r, min, value } = config;
     let n_fits = match kind {
-        MOST_PIPE..=FIRST_NO_PIPE => (2..=32).contains(&n),
-        IGNORE_NEW_START..=ERROR_ON_NEW_START => (1..=1024).contains(&n),
-        TRANSITION => n == 0,
+        MOST_PIPE..=FIRST_NO_PIPE => (2..=32).contains(&n) && min == 0,
+        IGNORE_NEW_START..=ERROR_ON_NEW_START => (1..=1024).contains(&n) && min == 0,
+        TRANSITION => n == 0 && min == 0,
+        VALUE | STABILITY => n <= 1024 && min <= n,
         _ => return Err(1),
     };
     if !n_fits {
         return Err(2);
     }
-    let widths_fit = match kind {
-        MOST_PIPE..=FIRST_NO_PIPE => p.width() == n && q.is_unused() && r.is_unused(),
-        IGNORE_NEW_START..=ERROR_ON_NEW_START => p.width() == 1 && q.width() == 1 && r.is_unused(),
-        _ => q.width() == p.width() && r.width() == p.width(),
+    if !(p.is_within() && q.is_within() && r.is_within()) {
+        return Err(3);
+    }
+    let fits = match kind {
+        MOST_PIPE..=FIRST_NO_PIPE => p.width() == n && q.is_unused() && r.is_unused() && value == 0,
+        IGNORE_NEW_START..=ERROR_ON_NEW_START => p.width() == 1 && q.width() == 1 && r.is_unused() && value == 0,
+        TRANSITION => q.width() == p.width() && r.width() == p.width() && value == 0,
+        VALUE => q.width() == 1 && r.is_unused() && u64::from(value) >> p.width() == 0,
+        _ => q.width() == 1 && r.is_unused() && value == 0,
     };
-    if !(p.is_within() && q.is_within() && r.is_within() && widths_fit) {
+    if !fits {
         return Err(3);
     }
     Ok(())
@@ -308,12 +457,23 @@ fn test_step(config: &Config, word: u64) -> Result<(), u32> {
     let possible = match config.kind {
         MOST_PIPE | FIRST_PIPE => word >> (config.n - 1) == 0,
         FIRST_NO_PIPE => word >> (config.n - 1) == 0 && word & word.wrapping_sub(1) == 0,
-        IGNORE_NEW_START..=ERROR_ON_NEW_START => word <= u64::from(config.n),
-        _ => word == 0 || word.checked_sub(STORED).is_some_and(|value| value >> config.p.width() == 0),
+        IGNORE_NEW_START..=ERROR_ON_NEW_START | VALUE => word <= u64::from(config.n),
+        TRANSITION => word == 0 || word.checked_sub(STORED).is_some_and(|value| value >> config.p.width() == 0),
+        _ => is_stability_word(config, word),
     };
     if possible {
         Ok(())
     } else {
         Err(7)
     }
+}
+
+/// Kind 8: nothing is open; or a window without a reference; or one that has its reference, so that `min` cycles are over.
+fn is_stability_word(config: &Config, word: u64) -> bool {
+    let Some(held) = word.checked_sub(HELD) else {
+        // With min 0 the reference is taken where the window opens.
+        return word == 0 || config.min > 0 && word <= u64::from(config.n);
+    };
+    let left = held as u16;
+    (1..=config.n - config.min).contains(&left.into()) && held >> REFERENCE >> config.p.width() == 0
 }

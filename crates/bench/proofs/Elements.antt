@@ -82,9 +82,12 @@ made = LL.makes C.the-type C′.the-plain
 
 -- ---- a table
 
--- a checker takes 16 bytes
-pub place-fits : {n k : ℕ} → Room C.the-row n → k < n → k * 16 < 2 ^ 64
-place-fits {n} {k} room l = let bytes : n * 16 < 2 ^ 63 = room .1 in omega (arith, bytes, l)
+-- the bytes of a checker
+abbrev pub checkerBytes : ℕ
+checkerBytes = 24
+
+pub place-fits : {n k : ℕ} → Room C.the-row n → k < n → k * checkerBytes < 2 ^ 64
+place-fits {n} {k} room l = let bytes : n * checkerBytes < 2 ^ 63 = room .1 in omega (arith, bytes, l)
 
 module _ (ℓ : Lifetime) (κ : Lft) (x : RefT (List Config)) where
   abbrev pub Lent : Fml
@@ -105,7 +108,7 @@ module _ (ℓ : Lifetime) (κ : Lft) (x : RefT (List Config)) where
 
     -- the share s of checker k's cell
     abbrev pub Cell : Share → Fml
-    Cell s = fat s (rawTy C′.mir) b (k * 16 + o) (C′.lowered c)
+    Cell s = fat s (rawTy C′.mir) b (k * checkerBytes + o) (C′.lowered c)
 
     -- the table without that share
     abbrev pub Open : Share → Fml
@@ -123,14 +126,14 @@ module _ (ℓ : Lifetime) (κ : Lft) (x : RefT (List Config)) where
           -- [the fractured borrow; the token; res; the slice's facts]
           looks-slice t z C.the-row (Is C.the-row) (shows 𝓤 H A C.the-row) (LL.vals C.the-type C′.the-laws) (LL.tells C.the-type C′.the-laws) (LL.copy C.the-type C′.the-copy 𝓤 H A W) cs b o (λ s.
           elem-out t C.the-row (Is C.the-row) (shows 𝓤 H A C.the-row) (LL.vals C.the-type C′.the-laws) (LL.tells C.the-type C′.the-laws) s cs k blank b o l (λ is.
-          rewrite t 0 (λ (p : ℕ). ‵ (fat s (rawTy C′.mir) b p (C′.lowered c))) (place-is 16 o k) refl $
+          rewrite t 0 (λ (p : ℕ). ‵ (fat s (rawTy C′.mir) b p (C′.lowered c))) (place-is checkerBytes o k) refl $
           -- [the cell; what the checker owns; the others; the open borrow; the fractured borrow; res; the slice's facts]
           move t (1 ∷ 2 ∷ []) $ fjoin t $ move t (2 ∷ 0 ∷ []) $ fjoin t $ move t (2 ∷ 0 ∷ []) $ fjoin t $ move t (2 ∷ 0 ∷ []) $ fjoin t $ move t (2 ∷ 0 ∷ []) $ fjoin t $
           move t (1 ∷ []) $ next s is))
 
       pub shuts-checker : K → Soaks G → k < length cs → (s : Share) → Step K W (‵ Lent ∷ ‵ (flft κ q) ∷ Γ) G (‵ (Cell s) ∷ ‵ (Open s) ∷ Γ) G
       shuts-checker t z l s = step (λ next.
-          rewrite t 0 (λ (p : ℕ). ‵ (fat s (rawTy C′.mir) b p (C′.lowered c))) (sym (place-is 16 o k)) refl $
+          rewrite t 0 (λ (p : ℕ). ‵ (fat s (rawTy C′.mir) b p (C′.lowered c))) (sym (place-is checkerBytes o k)) refl $
           move t (1 ∷ []) $ fsplit t $ move t (1 ∷ []) $ fsplit t $ move t (1 ∷ []) $ fsplit t $ move t (1 ∷ []) $ fsplit t $ move t (1 ∷ []) $ fsplit t $
           -- [what the checker owns; the others; the open borrow; the fractured borrow; res; the slice's facts; the cell]
           move t (6 ∷ []) $ elem-back t C.the-row s cs k blank (C′.lowered c ∷ []) b o l $ shuts-slice t z C.the-row s cs b o $

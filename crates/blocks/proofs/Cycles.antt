@@ -39,8 +39,8 @@ step-entries c good tr t =
     let w = wordBefore c tr t in
     sym
     (ap₂ (λ (ss us : List ℕ). map (entry t 1) ss ++ map (entry t 2) us)
-    (chosen-ext t (failed c tr t) (fails c w (tr t) t) (failed-starts c good tr t))
-    (chosen-ext t (illegal c tr t) (startsIllegally c w (tr t) t) (illegal-starts c good tr t)))
+    (chosen-ext (suc t) (failed c tr t) (fails c w (tr t) t) (failed-starts c good tr t))
+    (chosen-ext (suc t) (illegal c tr t) (startsIllegally c w (tr t) t) (illegal-starts c good tr t)))
 
 -- the word before the first cycle of a block, and before any other
 pub word-first : (word : ℕ) (words : List ℕ) (k : ℕ) → k ≡ 0 → word ≡ wordIn word words k

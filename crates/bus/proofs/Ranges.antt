@@ -1,16 +1,16 @@
 -- Laws of declared ranges. Assumes nothing.
-use Prim.Native.Nat.{ℕ, suc, _+_, _-_, _≤_, _<_}
-use mathlib.Core.Path.{_≡_, refl, sym, ap, _∙_}
+use Prim.Native.Nat.{ℕ, suc, _+_, _-_, _^_, _≤_, _<_}
+use mathlib.Core.Path.{_≡_, refl, sym, ap, ap₂, _∙_}
 use mathlib.Core.Bool.{Bool, true, false, cond}
 use mathlib.Core.Logic.{⊎-elim}
 use native.Mathlib.Omega.{arith}
-use borrow.Author.Tests.{le-leb, lt-leb, leb-true, leb-false}
-use lib.Dec.{T, eqb, leb, leb→le, le→leb}
+use borrow.Author.Tests.{le-leb, lt-leb, leb-true, leb-false, eq-eqb}
+use lib.Dec.{T, eqb, leb, leb→le, le→leb, eqb→eq}
 use Rattle.bits.specs.Bits.{bit, number}
 use Rattle.bus.specs.Range.{width, within, wireOf, valueOf}
 use Rattle.bus.specs.declared.range.Range.{Range}
-use Rattle.bits.proofs.Bits.{number-ext, number-one, bit-number}
-use Rattle.bits.proofs.Tests.{and-intro, and-left, and-right, either}
+use Rattle.bits.proofs.Bits.{number-ext, number-is, number-lt, number-one, bit-number}
+use Rattle.bits.proofs.Tests.{of-true, iff-eq, and-intro, and-left, and-right, either}
 
 pub left-low : (r : Range) → T (within r) → r .left ≤ 31
 unfolding within
@@ -38,6 +38,11 @@ width-le r h =
     ⊎-elim (λ (e : leb (r .right) (r .left) ≡ true). simp e (omega (arith, left-low r h)))
     (λ (e : leb (r .right) (r .left) ≡ false). simp e (omega (arith, right-low r h))) (either (leb (r .right) (r .left)))
 
+-- and one that is declared upwards has at least two
+pub ascends-width : (r : Range) → r .left < r .right → 1 < width r
+unfolding width
+ascends-width r h = rw (lt-leb _ _ h) (omega arith)
+
 -- A port of width 1 has the one wire `left`, and its value is what that wire holds.
 pub value-wire : (r : Range) (wires : ℕ) → width r ≡ 1 → bit wires (r .left) ≡ eqb (valueOf r wires) 1
 unfolding valueOf width wireOf
@@ -51,6 +56,33 @@ value-wire r wires e =
     first true f h = omega (arith, leb-true (r .right) (r .left) f)
     first false f h = omega (arith, leb-false (r .right) (r .left) f)
 
+value-small : (r : Range) (wires : ℕ) → valueOf r wires < 2 ^ width r
+unfolding valueOf
+value-small r wires = number-lt (width r) (λ k. bit wires (wireOf r k))
+
+-- two numbers of bits are the same where those of the same bits in the other order are
+both-turned : (n : ℕ) (f g : ℕ → Bool)
+    → eqb (number n f) (number n g) ≡ eqb (number n (λ k. f (n - 1 - k))) (number n (λ k. g (n - 1 - k)))
+both-turned n f g =
+    iff-eq (eqb (number n f) (number n g)) (eqb (number n f′) (number n g′))
+    (λ h.
+    of-true
+    (eq-eqb (number n f′) (number n g′) (number-ext n f′ g′ (λ k l. bits f g (eqb→eq (number n f) (number n g) h) (n - 1 - k) (omega arith)))))
+    (λ h.
+    of-true
+    (eq-eqb (number n f) (number n g)
+    (number-ext n f g
+    (λ k l. let back : n - 1 - (n - 1 - k) ≡ k = omega arith in rw back at (bits f′ g′ (eqb→eq (number n f′) (number n g′) h) (n - 1 - k) (omega arith))))))
+  where
+    f′ : ℕ → Bool
+    f′ k = f (n - 1 - k)
+
+    g′ : ℕ → Bool
+    g′ k = g (n - 1 - k)
+
+    bits : (x y : ℕ → Bool) → number n x ≡ number n y → (i : ℕ) → i < n → x i ≡ y i
+    bits x y e i l = sym (bit-number n x i l) ∙ ap (λ (m : ℕ). bit m i) e ∙ bit-number n y i l
+
 -- Declared from the other end, the port is as wide, and its bits come in the other order.
 module _ (r r′ : Range) (p : r′ .left ≡ r .right) (q : r′ .right ≡ r .left) where
   pub turned-within : T (within r) → T (within r′)
@@ -59,7 +91,7 @@ module _ (r r′ : Range) (p : r′ .left ≡ r .right) (q : r′ .right ≡ r .
       and-intro (leb (r′ .left) 31) (leb (r′ .right) 31) (le→leb (r′ .left) 31 (omega (arith, right-low r h)))
       (le→leb (r′ .right) 31 (omega (arith, left-low r h)))
 
-  turned-width : width r′ ≡ width r
+  pub turned-width : width r′ ≡ width r
   unfolding width
   turned-width = by (leb (r .right) (r .left)) (leb (r′ .right) (r′ .left)) refl refl
     where
@@ -92,3 +124,11 @@ module _ (r r′ : Range) (p : r′ .left ≡ r .right) (q : r′ .right ≡ r .
       (λ i l.
       ap (bit wires) (turned-wire i l)
       ∙ sym (bit-number (width r) (λ (k : ℕ). bit wires (wireOf r k)) (width r - 1 - i) (omega arith)))
+
+  -- so a value is compared from the other end
+  pub turned-compared : (v x : ℕ) → v < 2 ^ width r → x ≡ number (width r) (λ (k : ℕ). bit v (width r - 1 - k)) → (wires : ℕ)
+      → eqb (valueOf r′ wires) x ≡ eqb (valueOf r wires) v
+  turned-compared v x l e wires =
+      ap₂ eqb (value-turned wires) e ∙ sym (both-turned (width r) (bit (valueOf r wires)) (bit v))
+      ∙ ap₂ eqb (sym (number-is (width r) (valueOf r wires) (bit (valueOf r wires)) (value-small r wires) (λ k i. refl)))
+      (sym (number-is (width r) v (bit v) l (λ k i. refl)))

@@ -16,6 +16,8 @@ fn main() {
         p: Range { left: 0, right: 3 },
         q: unused,
         r: unused,
+        min: 0,
+        value: 0,
     };
     let mut monitor = Monitor { config, word: 0 };
     io::write_all(STDOUT_FILENO, b"cycle row word\n");

@@ -10,11 +10,11 @@ use Rattle.bits.specs.Bits.{toBit}
 use Rattle.rules.specs.declared.config.Config.{Config}
 use Rattle.rules.specs.declared.frame.Frame.{Frame}
 use Rattle.rules.specs.Config.{Family, family}
-use Rattle.rules.specs.Config.Family.{time, transition}
+use Rattle.rules.specs.Config.Family.{time, transition, value, stability}
 use Rattle.rules.specs.Possible.{openCountOf, openCount, wordRefusal}
 use Rattle.rules.specs.Step.{Steps}
 use Rattle.checker.specs.Calls.{StepAnswer, CountAnswer}
-use Rattle.rules.proofs.Good.{family-time, family-transition}
+use Rattle.rules.proofs.Good.{family-time, family-transition, family-value, family-stability}
 
 count-are : (c : Config) (w : ℕ) (k : Family) → family (c .kind) ≡ k → openCountOf k w ≡ openCount c w
 unfolding openCount
@@ -46,13 +46,22 @@ module _ (c : Config) (w : ℕ) where
       let n : eqb (wordRefusal c w) 0 ≡ true = eq-eqb (wordRefusal c w) 0 z in
       record { refusal-is = sym z; count-is = rw n (e ∙ count-are c w k f) }
 
-  -- kinds 3 to 6: 1 when a check is unfinished
-  pub count-one : (count : ℕ) → 3 ≤ c .kind → c .kind < 7 → wordRefusal c w ≡ 0 → count ≡ toBit (not (eqb w 0)) → CountAnswer c w 0 count
+  -- kinds 3 to 8: 1 when a check is unfinished
+  pub count-one : (count : ℕ) → 3 ≤ c .kind → c .kind < 9 → wordRefusal c w ≡ 0 → count ≡ toBit (not (eqb w 0)) → CountAnswer c w 0 count
   unfolding openCountOf
   count-one count l h z e =
-      ⊎-elim (λ (six : c .kind ≡ 6). count-taken transition count (family-transition (c .kind) six) z (e ∙ turned (eqb w 0)))
-      (λ (less : c .kind < 6). count-taken time count (family-time (c .kind) l less) z (e ∙ turned (eqb w 0))) (eq-or-lt-of-le (le-of-suc-le-suc h))
+      ⊎-elim (λ (eight : c .kind ≡ 8). count-taken stability count (family-stability (c .kind) eight) z is)
+      (λ (below-8 : c .kind < 8).
+      ⊎-elim (λ (seven : c .kind ≡ 7). count-taken value count (family-value (c .kind) seven) z is)
+      (λ (below-7 : c .kind < 7).
+      ⊎-elim (λ (six : c .kind ≡ 6). count-taken transition count (family-transition (c .kind) six) z is)
+      (λ (below-6 : c .kind < 6). count-taken time count (family-time (c .kind) l below-6) z is) (eq-or-lt-of-le (le-of-suc-le-suc below-7)))
+      (eq-or-lt-of-le (le-of-suc-le-suc below-8)))
+      (eq-or-lt-of-le (le-of-suc-le-suc h))
     where
       turned : (b : Bool) → toBit (not b) ≡ cond b 0 1
       turned true = refl
       turned false = refl
+
+      is : count ≡ cond (eqb w 0) 0 1
+      is = e ∙ turned (eqb w 0)

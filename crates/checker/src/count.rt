@@ -27,11 +27,11 @@ pub fn open_count(c: Config, word: u64) -> OpenCount
             refusal: 0,
             count: u64::count_ones(word),
         },
-        3..=6 => OpenCount {
+        3..=8 => OpenCount {
             refusal: 0,
             count: to_bit(word != 0),
         },
-        7..=255 => OpenCount {
+        9..=255 => OpenCount {
             refusal: 0,
             count: 0,
         },

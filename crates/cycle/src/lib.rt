@@ -1,4 +1,4 @@
-// What the steps of all families have in common: reset, the row of marks, and what a step leaves.
+// What the steps of all families have in common: reset and enable, the row of marks, and what a step leaves.
 mod marks;
 mod outcome;
 mod reset;
@@ -6,5 +6,7 @@ mod reset;
 pub use marks::check_row;
 pub use marks::row_of;
 pub use marks::to_bit;
+pub use marks::window_row;
 pub use outcome::Outcome;
+pub use reset::is_enabled;
 pub use reset::out_of_reset;

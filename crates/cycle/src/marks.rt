@@ -7,7 +7,7 @@ use rules::RESTARTED;
 ghost use mathlib.Core.Path.{_≡_};
 ghost use Prim.Native.Nat.{_≤_};
 ghost use Rattle.bits.specs.Bits.{toBit};
-ghost use Rattle.rules.specs.Rules.{rowOf, checkMarks};
+ghost use Rattle.rules.specs.Rules.{rowOf, checkMarks, windowMarks};
 
 // 1 for true and 0 for false.
 pub fn to_bit(b: bool) -> u32
@@ -33,4 +33,11 @@ pub fn check_row(failure: bool, opened: bool) -> u32
     ensures { λ r. ⌜ r ≡ rowOf (checkMarks failure opened) ⌝ }
 {
     row_of(failure, false, opened, false, false)
+}
+
+// The row of a cycle where also a window can be closed.
+pub fn window_row(failure: bool, opened: bool, closed: bool) -> u32
+    ensures { λ r. ⌜ r ≡ rowOf (windowMarks failure opened closed) ⌝ }
+{
+    row_of(failure, false, opened, closed, false)
 }

@@ -1,5 +1,5 @@
 -- The entries of one cycle, from the open word before it, and what the code that counts and writes them may go by. Assumes nothing.
-use Prim.Native.Nat.{ℕ, _<_}
+use Prim.Native.Nat.{ℕ, suc, _<_}
 use mathlib.Core.Path.{_≡_}
 use mathlib.Core.List.{List, _++_, map}
 use lib.Dec.{T}
@@ -13,7 +13,7 @@ use Rattle.listed.specs.Starts.{fails, startsIllegally, Placed}
 
 -- the entries of a cycle
 unfoldable pub stepEntries : Config → ℕ → Frame → ℕ → List Entry
-stepEntries c w f t = map (entry t 1) (chosen t (fails c w f t)) ++ map (entry t 2) (chosen t (startsIllegally c w f t))
+stepEntries c w f t = map (entry t 1) (chosen (suc t) (fails c w f t)) ++ map (entry t 2) (chosen (suc t) (startsIllegally c w f t))
 
 -- a cycle of a run that was not refused, with its row
 pub record Ready (c : Config) (w : ℕ) (f : Frame) (row t : ℕ) : Type 0 where

@@ -4,6 +4,8 @@ use descending_runs::seek_descending;
 use rules::Config;
 use sequence_runs::fill_sequence;
 use sequence_runs::seek_sequence;
+use stability_runs::fill_stability;
+use stability_runs::seek_stability;
 use time_runs::fill_time;
 use time_runs::seek_time;
 use trace::Reached;
@@ -11,6 +13,8 @@ use trace::Stretch;
 use transition::all_descend;
 use transition_runs::fill_transition;
 use transition_runs::seek_transition;
+use value_runs::fill_value;
+use value_runs::seek_value;
 ghost use mathlib.Core.Bool.{true, false};
 ghost use mathlib.Core.Path.{_≡_};
 ghost use Rattle.trace.specs.Stretches.{Runnable, Ran};
@@ -44,7 +48,9 @@ fn fill(c: Config, trace: &[u32], rows: &mut [u32], words: &mut [u64], s: Stretc
                 fill_transition(c, trace, rows, words, s)
             }
         }
-        7..=255 => nowhere(s),
+        7 => fill_value(c, trace, rows, words, s),
+        8 => fill_stability(c, trace, rows, words, s),
+        9..=255 => nowhere(s),
     }
 }
 
@@ -64,7 +70,9 @@ fn seek(c: Config, trace: &[u32], rows: &mut [u32], words: &mut [u64], s: Stretc
                 seek_transition(c, trace, rows, words, s)
             }
         }
-        7..=255 => nowhere(s),
+        7 => seek_value(c, trace, rows, words, s),
+        8 => seek_stability(c, trace, rows, words, s),
+        9..=255 => nowhere(s),
     }
 }
 

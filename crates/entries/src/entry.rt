@@ -9,7 +9,7 @@ ghost use Rattle.entries.specs.Entries.{attemptEntries, windowEntries, S
 
 // One entry. Answers where the next one goes.
 pub fn write_entry(t: usize, mark: u32, start: usize, list: &mut [u32], at: usize) -> usize
-    requires { ⌜ (t < 65536) × (start < t) × (at + 3 ≤ length (now list)) ⌝ }
+    requires { ⌜ (t < 65536) × (start ≤ t) × (at + 3 ≤ length (now list)) ⌝ }
     ensures { λ r. ⌜ Stored (entry t mark start ∷ []) (now (list .entry)) at (now (list .exit)) r ⌝ }
 {
     list[at] = t as u32;
@@ -35,7 +35,7 @@ pub fn write_attempts(lost: u64, t: usize, list: &mut [u32], at: usize) -> usize
 
 // The entries of a time check from `start`, by the marks 1 and 2, of which one is set.
 pub fn write_window(marks: u32, start: usize, t: usize, list: &mut [u32], at: usize) -> usize
-    requires { ⌜ (0 < marks) × (marks < 4) × (t < 65536) × (start < t) × (at + 3 * length (windowEntries (bit marks 0) (bit marks 1) t start) ≤ length (now list)) ⌝ }
+    requires { ⌜ (0 < marks) × (marks < 4) × (t < 65536) × (start ≤ t) × (at + 3 * length (windowEntries (bit marks 0) (bit marks 1) t start) ≤ length (now list)) ⌝ }
     ensures { λ r. ⌜ Stored (windowEntries (bit marks 0) (bit marks 1) t start) (now (list .entry)) at (now (list .exit)) r ⌝ }
 {
     if marks != 3 {

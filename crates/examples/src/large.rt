@@ -14,6 +14,8 @@ fn transition() -> Config {
         p: wire,
         q: wire,
         r: wire,
+        min: 0,
+        value: 0,
     }
 }
 

@@ -47,6 +47,8 @@ pub fn checker(kind: u8, n: u32, high: u8) -> Config {
         },
         q: no_port(),
         r: no_port(),
+        min: 0,
+        value: 0,
     }
 }
 

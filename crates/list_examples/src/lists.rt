@@ -67,6 +67,8 @@ fn two_ports(kind: u8, n: u32, p: Range, q: Range) -> Config {
         p,
         q,
         r: Range { left: 0, right: 0 },
+        min: 0,
+        value: 0,
     }
 }
 

@@ -3,7 +3,7 @@
 use Prim.Native.Nat.{ℕ, zero, suc, _+_, _*_, _<_, _≤_}
 use mathlib.Core.Path.{_≡_, refl, sym, ap, ap₂, _∙_}
 use mathlib.Core.Bool.{Bool, true, false, cond}
-use mathlib.Core.List.{List, [], _∷_, _++_}
+use mathlib.Core.List.{List, [], _∷_, _++_, append-nil}
 use mathlib.Core.Logic.{⊎-elim}
 use native.Mathlib.Nat.{le-of-suc-le-suc, not-suc-le-zero, eq-or-lt-of-le, le-refl, le-step, add-zero}
 use native.Mathlib.Omega.{arith}
@@ -19,6 +19,9 @@ use Rattle.listed.specs.Lists.{Entry, chosen, wordsOf}
 chosen-last : (k : ℕ) (f : ℕ → Bool) (l : List ℕ) (b : Bool) → chosen k f ≡ l → f k ≡ b → chosen (suc k) f ≡ l ++ cond b (k ∷ []) []
 unfolding chosen
 chosen-last k f l b = ap₂ (λ (r : List ℕ) (a : Bool). r ++ cond a (k ∷ []) [])
+
+pub chosen-before : (k : ℕ) (f : ℕ → Bool) → f k ≡ false → chosen (suc k) f ≡ chosen k f
+chosen-before k f e = chosen-last k f (chosen k f) false refl e ∙ append-nil (chosen k f)
 
 pub chosen-ext : (k : ℕ) (f g : ℕ → Bool) → ((s : ℕ) → s < k → f s ≡ g s) → chosen k f ≡ chosen k g
 unfolding chosen

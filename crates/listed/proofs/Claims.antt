@@ -3,13 +3,13 @@
 -- none stands twice (`once`). Those bits are the row's marks 1 and 2, which say that some check before t fails there, or is pending at an illegal start, and the
 -- list goes through the same checks (`mark-1`, `mark-2`). It is made of ascending lists that stand in ascending order. Assumes nothing.
 use Prim.Native.Nat.{ℕ, zero, suc, _+_, _*_, _<_}
-use mathlib.Core.Path.{_≡_, refl, sym, subst, subst₂, _∙_}
-use mathlib.Core.Bool.{Bool, true, false, _&&_, and-false}
+use mathlib.Core.Path.{_≡_, refl, sym, ap, subst, subst₂, _∙_}
+use mathlib.Core.Bool.{Bool, true, false, _&&_, _||_, and-false, or-false}
 use mathlib.Core.List.{map, List·Memᴰ, List·Memᴰ·not-nil, List·Memᴰ·append-cases, Memᴰ·append-left, Memᴰ·append-right, Memᴰ·map, Memᴰ·of-map}
 use mathlib.Core.Logic.{_↔_, ⊎-elim}
-use native.Mathlib.Nat.{le-of-suc-le-suc, not-suc-le-zero, eq-or-lt-of-le, le-step}
+use native.Mathlib.Nat.{le-of-suc-le-suc, not-suc-le-zero, eq-or-lt-of-le, le-refl, le-step}
 use native.Mathlib.Omega.{arith}
-use borrow.Author.Tests.{ne-eqb}
+use borrow.Author.Tests.{le-ltb, ne-eqb}
 use lib.Dec.{T, eqb, lit<}
 use lib.ListN.{length, getD}
 use Rattle.bits.specs.Bits.{toBit, bit, some}
@@ -17,12 +17,13 @@ use Rattle.bits.proofs.Bits.{toBit-lt, eqb-toBit, bit-low, bit-double}
 use Rattle.bits.proofs.Tests.{either, some-none, some-intro, some-elim}
 use Rattle.rules.specs.declared.config.Config.{Config}
 use Rattle.rules.specs.Config.{Family, family, Good}
-use Rattle.rules.specs.Config.Family.{sequence, time, transition, none}
-use Rattle.rules.specs.Frame.{Trace, up}
+use Rattle.rules.specs.Config.Family.{sequence, time, transition, value, stability, none}
+use Rattle.rules.specs.Frame.{Trace, up, enabled}
 use Rattle.rules.specs.Checks.{Checks, accepted, busy, fails}
 use Rattle.rules.specs.Sequence.{event, sequenceChecks}
-use Rattle.rules.specs.Time.{startSeen, timeChecks, illegalStart}
+use Rattle.rules.specs.Time.{startSeen, windowPending, timeChecks, illegalStart}
 use Rattle.rules.specs.Transition.{transitionChecks}
+use Rattle.rules.specs.Trigger.{triggerSeen, tested, triggerChecks, valueChecks, stabilityChecks}
 use Rattle.rules.specs.Rules.{Marks, rowOf, marksOf, row}
 use Rattle.rules.proofs.Good.{family-time, not-none}
 use Rattle.listed.specs.Lists.{Entry, entry, chosen, checksOf, failed, illegal, failuresAt, failuresTo}
@@ -51,17 +52,21 @@ module _ (m : Marks) where
 -- a cycle in reset violates no check and starts none
 module _ (c : Config) (tr : Trace) (t : ℕ) (down : up (tr t) ≡ false) where
   not-violated : (k : Family) (s : ℕ) → checksOf k c tr .violated s t ≡ false
-  unfolding checksOf sequenceChecks timeChecks transitionChecks
+  unfolding checksOf sequenceChecks timeChecks transitionChecks valueChecks stabilityChecks triggerChecks tested enabled
   not-violated sequence s = rw down
   not-violated time s = rw down
   not-violated transition s = rw down
+  not-violated value s = rw down
+  not-violated stability s = rw down
   not-violated none s = refl
 
   not-started : (k : Family) → checksOf k c tr .starts t ≡ false
-  unfolding checksOf sequenceChecks timeChecks transitionChecks event startSeen
+  unfolding checksOf sequenceChecks timeChecks transitionChecks valueChecks stabilityChecks triggerChecks event startSeen triggerSeen enabled
   not-started sequence = rw down
   not-started time = rw down
   not-started transition = rw down
+  not-started value = rw down
+  not-started stability = rw down
   not-started none = refl
 
 -- a test that does not look at the number stands in front
@@ -75,6 +80,8 @@ module _ (c : Config) (good : Good c) (tr : Trace) (t : ℕ) where
   marks-failure sequence e = refl
   marks-failure time e = refl
   marks-failure transition e = refl
+  marks-failure value e = refl
+  marks-failure stability e = refl
   marks-failure none e = absurd (not-none c good e)
 
   -- kind 5 is a time kind
@@ -87,34 +94,51 @@ module _ (c : Config) (good : Good c) (tr : Trace) (t : ℕ) where
   marks-illegal sequence e = rw (not-five sequence e (λ q. let z : _≡_ {A = ℕ} 0 1 = cc in omega arith))
   marks-illegal time e = refl
   marks-illegal transition e = rw (not-five transition e (λ q. let z : _≡_ {A = ℕ} 0 1 = cc in omega arith))
+  marks-illegal value e = rw (not-five value e (λ q. let z : _≡_ {A = ℕ} 0 1 = cc in omega arith))
+  marks-illegal stability e = rw (not-five stability e (λ q. let z : _≡_ {A = ℕ} 0 1 = cc in omega arith))
   marks-illegal none e = absurd (not-none c good e)
 
+  -- no time check is pending in the cycle where it starts
+  not-at-start : illegal c tr t t ≡ false
+  unfolding illegal checksOf timeChecks windowPending
+  not-at-start = by (family (c .kind)) refl
+    where
+      by : (k : Family) → family (c .kind) ≡ k
+          → (eqb (c .kind) 5 && checksOf k c tr .starts t && (accepted (checksOf k c tr) t && checksOf k c tr .pending t t)) ≡ false
+      by sequence e = rw (not-five sequence e (λ q. let z : _≡_ {A = ℕ} 0 1 = cc in omega arith)) refl
+      by time e = simp (le-ltb t t (le-refl t), and-false)
+      by transition e = rw (not-five transition e (λ q. let z : _≡_ {A = ℕ} 0 1 = cc in omega arith)) refl
+      by value e = rw (not-five value e (λ q. let z : _≡_ {A = ℕ} 0 1 = cc in omega arith)) refl
+      by stability e = rw (not-five stability e (λ q. let z : _≡_ {A = ℕ} 0 1 = cc in omega arith)) refl
+      by none e = absurd (not-none c good e)
+
 -- Bit 0 of a row: some check fails. Bit 1: there is an illegal start while some check is pending.
-pub mark-1 : (c : Config) → Good c → (tr : Trace) (t : ℕ) → bit (row c tr t) 0 ≡ some t (failed c tr t)
+pub mark-1 : (c : Config) → Good c → (tr : Trace) (t : ℕ) → bit (row c tr t) 0 ≡ some (suc t) (failed c tr t)
 unfolding row failed fails bit
 mark-1 c good tr t = ⊎-elim running in-reset (either (up (tr t)))
   where
-    running : up (tr t) ≡ true → bit (row c tr t) 0 ≡ some t (failed c tr t)
+    running : up (tr t) ≡ true → bit (row c tr t) 0 ≡ some (suc t) (failed c tr t)
     running e = rw e (row-failure (marksOf (family (c .kind)) c tr t) ∙ marks-failure c good tr t (family (c .kind)) refl)
 
-    in-reset : up (tr t) ≡ false → bit (row c tr t) 0 ≡ some t (failed c tr t)
-    in-reset e = rw e (sym (some-none t (failed c tr t) (λ s _. rw (not-violated c tr t e (family (c .kind)) s, and-false))))
+    in-reset : up (tr t) ≡ false → bit (row c tr t) 0 ≡ some (suc t) (failed c tr t)
+    in-reset e = rw e (sym (some-none (suc t) (failed c tr t) (λ s _. rw (not-violated c tr t e (family (c .kind)) s, and-false))))
 
-pub mark-2 : (c : Config) → Good c → (tr : Trace) (t : ℕ) → bit (row c tr t) 1 ≡ some t (illegal c tr t)
-unfolding row illegal busy bit
+pub mark-2 : (c : Config) → Good c → (tr : Trace) (t : ℕ) → bit (row c tr t) 1 ≡ some (suc t) (illegal c tr t)
+unfolding row illegal busy bit some
 mark-2 c good tr t = ⊎-elim running in-reset (either (up (tr t)))
   where
     k : Checks
     k = checksOf (family (c .kind)) c tr
 
-    running : up (tr t) ≡ true → bit (row c tr t) 1 ≡ some t (illegal c tr t)
+    running : up (tr t) ≡ true → bit (row c tr t) 1 ≡ some (suc t) (illegal c tr t)
     running e =
         rw e
         (row-illegal (marksOf (family (c .kind)) c tr t) ∙ marks-illegal c good tr t (family (c .kind)) refl
-        ∙ sym (some-and t (eqb (c .kind) 5 && k .starts t) (λ s. accepted k s && k .pending s t)))
+        ∙ sym (some-and t (eqb (c .kind) 5 && k .starts t) (λ s. accepted k s && k .pending s t))
+        ∙ sym (ap (λ (b : Bool). some t (illegal c tr t) || b) (not-at-start c good tr t) ∙ or-false (some t (illegal c tr t))))
 
-    in-reset : up (tr t) ≡ false → bit (row c tr t) 1 ≡ some t (illegal c tr t)
-    in-reset e = rw e (sym (some-none t (illegal c tr t) (λ s _. rw (not-started c tr t e (family (c .kind)), and-false))))
+    in-reset : up (tr t) ≡ false → bit (row c tr t) 1 ≡ some (suc t) (illegal c tr t)
+    in-reset e = rw e (sym (some-none (suc t) (illegal c tr t) (λ s _. rw (not-started c tr t e (family (c .kind)), and-false))))
 
 -- ---- the entries
 
@@ -137,16 +161,16 @@ pub record Listed (c : Config) (tr : Trace) (n : ℕ) (e : Entry) : Type 0 where
 module _ (c : Config) (tr : Trace) where
   -- an entry that the rules ask for
   abbrev Due : Entry → Type 0
-  Due e = (e .start < e .cycle) × T (marked c tr (e .cycle) (e .mark) (e .start))
+  Due e = (e .start < suc (e .cycle)) × T (marked c tr (e .cycle) (e .mark) (e .start))
 
-  part-due : (t m : ℕ) (e : Entry) → List·Memᴰ e (map (entry t m) (chosen t (marked c tr t m))) → (e .cycle ≡ t) × Due e
+  part-due : (t m : ℕ) (e : Entry) → List·Memᴰ e (map (entry t m) (chosen (suc t) (marked c tr t m))) → (e .cycle ≡ t) × Due e
   part-due t m e h =
-      let r = Memᴰ·of-map (entry t m) (chosen t (marked c tr t m)) h in
-      subst (λ (x : Entry). (x .cycle ≡ t) × Due x) (r .2) (refl, chosen-holds t (marked c tr t m) (r .0) (r .1))
+      let r = Memᴰ·of-map (entry t m) (chosen (suc t) (marked c tr t m)) h in
+      subst (λ (x : Entry). (x .cycle ≡ t) × Due x) (r .2) (refl, chosen-holds (suc t) (marked c tr t m) (r .0) (r .1))
 
   at-due : (t : ℕ) (e : Entry) → List·Memᴰ e (failuresAt c tr t) → (e .cycle ≡ t) × Due e
   unfolding failuresAt
-  at-due t e h = ⊎-elim (part-due t 1 e) (part-due t 2 e) (List·Memᴰ·append-cases (map (entry t 1) (chosen t (failed c tr t))) h)
+  at-due t e h = ⊎-elim (part-due t 1 e) (part-due t 2 e) (List·Memᴰ·append-cases (map (entry t 1) (chosen (suc t) (failed c tr t))) h)
 
   to-due : (n : ℕ) (e : Entry) → List·Memᴰ e (failuresTo c tr n) → (e .cycle < n) × Due e
   unfolding failuresTo
@@ -156,13 +180,13 @@ module _ (c : Config) (tr : Trace) where
       (λ (m′ : List·Memᴰ e (failuresAt c tr n)). let r = at-due n e m′ in (omega arith, r .1))
       (List·Memᴰ·append-cases (failuresTo c tr n) m)
 
-  due-at : (t m s : ℕ) → s < t → T (marked c tr t m s) → List·Memᴰ (entry t m s) (failuresAt c tr t)
+  due-at : (t m s : ℕ) → s < suc t → T (marked c tr t m s) → List·Memᴰ (entry t m s) (failuresAt c tr t)
   unfolding failuresAt
   due-at t zero s l h = absurd h
   due-at t (suc zero) s l h =
-      Memᴰ·append-left (map (entry t 2) (chosen t (illegal c tr t))) (Memᴰ·map (entry t 1) (chosen-member t (failed c tr t) s l h))
+      Memᴰ·append-left (map (entry t 2) (chosen (suc t) (illegal c tr t))) (Memᴰ·map (entry t 1) (chosen-member (suc t) (failed c tr t) s l h))
   due-at t (suc (suc zero)) s l h =
-      Memᴰ·append-right (map (entry t 1) (chosen t (failed c tr t))) (Memᴰ·map (entry t 2) (chosen-member t (illegal c tr t) s l h))
+      Memᴰ·append-right (map (entry t 1) (chosen (suc t) (failed c tr t))) (Memᴰ·map (entry t 2) (chosen-member (suc t) (illegal c tr t) s l h))
   due-at t (suc (suc (suc m))) s l h = absurd h
 
   due-to : (n : ℕ) (e : Entry) → e .cycle < n → Due e → List·Memᴰ e (failuresTo c tr n)
@@ -176,7 +200,7 @@ module _ (c : Config) (tr : Trace) where
       (λ (l′ : e .cycle < n). Memᴰ·append-left (failuresAt c tr n) (due-to n e l′ h)) (eq-or-lt-of-le (le-of-suc-le-suc l))
 
 -- the list has exactly the entries that the rules ask for
-pub listed : (c : Config) (tr : Trace) (n t m s : ℕ) → Listed c tr n (entry t m s) ↔ ((t < n) × (s < t) × T (marked c tr t m s))
+pub listed : (c : Config) (tr : Trace) (n t m s : ℕ) → Listed c tr n (entry t m s) ↔ ((t < n) × (s < suc t) × T (marked c tr t m s))
 listed c tr n t m s = (
   λ r.
       let member = subst (λ (e : Entry). List·Memᴰ e (failuresTo c tr n)) (r .is) (member-at (failuresTo c tr n) (r .index) blank (r .low)) in
@@ -186,10 +210,10 @@ listed c tr n t m s = (
 )
 
 -- so it has a mark in a cycle when the rules give it there for some check
-listed-some : (c : Config) (tr : Trace) (n t m : ℕ) → t < n → ((s : ℕ) × Listed c tr n (entry t m s)) ↔ T (some t (marked c tr t m))
+listed-some : (c : Config) (tr : Trace) (n t m : ℕ) → t < n → ((s : ℕ) × Listed c tr n (entry t m s)) ↔ T (some (suc t) (marked c tr t m))
 listed-some c tr n t m l = (
-  λ r. let h = listed c tr n t m (r .0) .0 (r .1) in some-intro t (marked c tr t m) (r .0) (h .1) (h .2),
-  λ h. let r = some-elim t (marked c tr t m) h in (r .at, listed c tr n t m (r .at) .1 (l, r .low, r .holds)),
+  λ r. let h = listed c tr n t m (r .0) .0 (r .1) in some-intro (suc t) (marked c tr t m) (r .0) (h .1) (h .2),
+  λ h. let r = some-elim (suc t) (marked c tr t m) h in (r .at, listed c tr n t m (r .at) .1 (l, r .low, r .holds)),
 )
 
 -- in cycle t there is an entry with mark 1 when bit 0 of the row of t is set, and one with mark 2 when bit 1 is
@@ -207,18 +231,18 @@ pub data Before (a b : Entry) : Type 0 where
   mark-before : a .cycle ≡ b .cycle → a .mark < b .mark → Before a b
   start-before : a .cycle ≡ b .cycle → a .mark ≡ b .mark → a .start < b .start → Before a b
 
-part-ascending : (t m : ℕ) (f : ℕ → Bool) → Ascending Before (map (entry t m) (chosen t f))
+part-ascending : (t m : ℕ) (f : ℕ → Bool) → Ascending Before (map (entry t m) (chosen (suc t) f))
 part-ascending t m f =
-    ascending-map (λ (s u : ℕ). s < u) Before (entry t m) (λ s u l. start-before refl refl l) (chosen t f) (chosen-ascending t f)
+    ascending-map (λ (s u : ℕ). s < u) Before (entry t m) (λ s u l. start-before refl refl l) (chosen (suc t) f) (chosen-ascending (suc t) f)
 
 module _ (c : Config) (tr : Trace) where
   at-ascending : (t : ℕ) → Ascending Before (failuresAt c tr t)
   unfolding failuresAt
   at-ascending t =
-      ascending-append Before (map (entry t 1) (chosen t (failed c tr t))) (map (entry t 2) (chosen t (illegal c tr t)))
+      ascending-append Before (map (entry t 1) (chosen (suc t) (failed c tr t))) (map (entry t 2) (chosen (suc t) (illegal c tr t)))
       (part-ascending t 1 (failed c tr t)) (part-ascending t 2 (illegal c tr t))
       (λ a b m n.
-      subst₂ Before (Memᴰ·of-map (entry t 1) (chosen t (failed c tr t)) m .2) (Memᴰ·of-map (entry t 2) (chosen t (illegal c tr t)) n .2)
+      subst₂ Before (Memᴰ·of-map (entry t 1) (chosen (suc t) (failed c tr t)) m .2) (Memᴰ·of-map (entry t 2) (chosen (suc t) (illegal c tr t)) n .2)
       (mark-before refl (lit< tt)))
 
   to-ascending : (n : ℕ) → Ascending Before (failuresTo c tr n)

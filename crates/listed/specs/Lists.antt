@@ -1,4 +1,4 @@
--- The failure list, from document 01, "Failure list" and demand 2: every failure and every illegal start, with the start of its check, by the rules.
+-- The failure list, from document 01, "Failure list" and demand 2, and document 02, §4: every failure and every illegal start, with the start of its check, by the rules.
 -- Assumes nothing.
 use Prim.Native.Nat.{ℕ, zero, suc}
 use mathlib.Core.Bool.{Bool, false, _&&_, cond}
@@ -6,12 +6,13 @@ use mathlib.Core.List.{List, [], _∷_, _++_, map}
 use lib.Dec.{eqb}
 use Rattle.rules.specs.declared.config.Config.{Config}
 use Rattle.rules.specs.Config.{Family, family}
-use Rattle.rules.specs.Config.Family.{sequence, time, transition, none}
+use Rattle.rules.specs.Config.Family.{sequence, time, transition, value, stability, none}
 use Rattle.rules.specs.Frame.{Trace}
 use Rattle.rules.specs.Checks.{Checks, accepted}
 use Rattle.rules.specs.Sequence.{sequenceChecks}
 use Rattle.rules.specs.Time.{timeChecks}
 use Rattle.rules.specs.Transition.{transitionChecks}
+use Rattle.rules.specs.Trigger.{valueChecks, stabilityChecks}
 
 -- "three 32-bit words each (cycle, mark 1 or 2, start cycle)"
 pub record Entry : Type 0 where
@@ -32,11 +33,13 @@ unfoldable pub checksOf : Family → Config → Trace → Checks
 checksOf sequence c tr = sequenceChecks c tr
 checksOf time c tr = timeChecks c tr
 checksOf transition c tr = transitionChecks c tr
+checksOf value c tr = valueChecks c tr
+checksOf stability c tr = stabilityChecks c tr
 checksOf none c tr = record { starts = λ s. false; pending = λ s t. false; violated = λ s t. false; ignores = false }
 
 module _ (c : Config) (tr : Trace) (t : ℕ) where
   -- the accepted check from s is violated in cycle t: "A time check's start is where it was opened or last window reset, a transition's the cycle before",
-  -- a sequence's the attempt's start
+  -- a sequence's the attempt's start; after a trigger "the listed start is the trigger cycle"
   unfoldable pub failed : ℕ → Bool
   failed s = accepted (checksOf (family (c .kind)) c tr) s && checksOf (family (c .kind)) c tr .violated s t
 
@@ -46,10 +49,9 @@ module _ (c : Config) (tr : Trace) (t : ℕ) where
       eqb (c .kind) 5 && checksOf (family (c .kind)) c tr .starts t
       && (accepted (checksOf (family (c .kind)) c tr) s && checksOf (family (c .kind)) c tr .pending s t)
 
-  -- the entries of cycle t, "ordered by cycle, mark, start"
+  -- the entries of cycle t, "ordered by cycle, mark, start". A check can fail in the cycle where it starts.
   unfoldable pub failuresAt : List Entry
-  failuresAt =
-      map (entry t 1) (chosen t failed) ++ map (entry t 2) (chosen t illegal)
+  failuresAt = map (entry t 1) (chosen (suc t) failed) ++ map (entry t 2) (chosen (suc t) illegal)
 
 -- the entries of the cycles before t
 unfoldable pub failuresTo : Config → Trace → ℕ → List Entry

@@ -13,8 +13,10 @@ pub fn config_of(
     q_right: u8,
     r_left: u8,
     r_right: u8,
+    min: u32,
+    value: u32,
 ) -> Config
-    ensures { λ r. ⌜ r ≡ configOf kind n «p_left» «p_right» «q_left» «q_right» «r_left» «r_right» ⌝ }
+    ensures { λ r. ⌜ r ≡ configOf kind n «p_left» «p_right» «q_left» «q_right» «r_left» «r_right» min value ⌝ }
 {
     Config {
         kind,
@@ -31,5 +33,7 @@ pub fn config_of(
             left: r_left,
             right: r_right,
         },
+        min,
+        value,
     }
 }

@@ -1,6 +1,7 @@
 // What a bench does with one checker of its table. An answer is 256 times the refusal and the bad checker's number; 0 is no refusal.
+use config::config_refusal;
 use one_step::step;
-use open_words::refusal;
+use open_words::is_possible;
 use rules::Config;
 use trace::frame_at;
 ghost use mathlib.Core.Path.{_≡_};
@@ -20,11 +21,14 @@ pub fn test_one(answer: u32, c: Config, words: &[u64], k: usize) -> u32
     if answer != 0 {
         return answer;
     }
-    let refused = refusal(c, words[k]);
-    if refused == 0 {
+    let refused = config_refusal(c);
+    if refused != 0 {
+        return 256 * refused + k as u32;
+    }
+    if is_possible(c, words[k]) {
         0
     } else {
-        256 * refused + k as u32
+        256 * 7 + k as u32
     }
 }
 

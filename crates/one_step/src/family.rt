@@ -5,6 +5,10 @@ use rules::Frame;
 use sequence::sequence_cycle;
 use time::time_cycle;
 use transition::transition_cycle;
+use trigger::expected_wires;
+use trigger::stability_cycle;
+use trigger::value_cycle;
+ghost use Prim.Native.Nat.{_<_};
 ghost use lib.Dec.{T};
 ghost use Rattle.rules.specs.Config.{Good};
 ghost use Rattle.rules.specs.Possible.{possible};
@@ -20,6 +24,18 @@ pub fn step(c: Config, word: u64, frame: Frame) -> Outcome
         0..=2 => sequence_cycle(c, word, frame),
         3..=5 => time_cycle(c, word, frame),
         6 => transition_cycle(c, word, frame),
-        7..=255 => Outcome { row: 0, word: 0 },
+        7..=8 => after_trigger(c, word, frame),
+        9..=255 => Outcome { row: 0, word: 0 },
     }
+}
+
+// One step of kind 7 or 8.
+fn after_trigger(c: Config, word: u64, frame: Frame) -> Outcome
+    requires { ⌜ (Good c) × (T (possible c word)) × (6 < c .kind) ⌝ }
+    ensures { λ r. ⌜ Steps c word frame (r .row) (r .word) ⌝ }
+{
+    if c.kind == 7 {
+        return value_cycle(c, expected_wires(c), word, frame);
+    }
+    stability_cycle(c, word, frame)
 }

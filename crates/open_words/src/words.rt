@@ -2,15 +2,18 @@
 use bits::low_ones;
 use config::config_refusal;
 use rules::Config;
+use rules::REFERENCE_HELD;
+use rules::REFERENCE_UNIT;
 ghost use mathlib.Core.Path.{_≡_};
 ghost use mathlib.Core.Bool.{_&&_};
 ghost use Prim.Native.Nat.{_-_, _^_, _<_};
 ghost use lib.Dec.{leb, ltb};
-ghost use Rattle.rules.specs.Config.{Good};
-ghost use Rattle.rules.specs.Possible.{possible, wordRefusal};
+ghost use Rattle.rules.specs.Config.{Good, family};
+ghost use Rattle.rules.specs.Config.Family.{stability};
+ghost use Rattle.rules.specs.Possible.{withoutReference, withAReference, possible, wordRefusal};
 
 // Whether some trace leaves the word.
-fn is_possible(c: Config, word: u64) -> bool
+pub fn is_possible(c: Config, word: u64) -> bool
     requires { ⌜ Good c ⌝ }
     ensures { λ r. ⌜ r ≡ possible c word ⌝ }
 {
@@ -21,7 +24,8 @@ fn is_possible(c: Config, word: u64) -> bool
         0..=2 => (word <= low_ones(n - 1)) & ((kind != 2) | (u64::count_ones(word) <= 1)),
         3..=5 => word <= n as u64,
         6 => (word == 0) | is_stored(word, p.width()),
-        7..=255 => false,
+        7..=8 => is_window(c, word),
+        9..=255 => false,
     }
 }
 
@@ -45,4 +49,36 @@ fn is_stored(word: u64, width: u32) -> bool
         return false;
     }
     word - 0x1_0000_0000 <= low_ones(width)
+}
+
+// Kinds 7 and 8: whether the word is that of a window, or 0.
+fn is_window(c: Config, word: u64) -> bool
+    requires { ⌜ (Good c) × (6 < c .kind) ⌝ }
+    ensures { λ r. ⌜ r ≡ possible c word ⌝ }
+{
+    if c.kind == 7 {
+        return word <= c.n as u64;
+    }
+    (word == 0) | has_no_reference(c, word) | has_reference(c, word)
+}
+
+// Whether the word is that of a window of kind 8 that has seen no enabled cycle from s+min on. The trigger's own cycle is enabled.
+fn has_no_reference(c: Config, word: u64) -> bool
+    ensures { λ r. ⌜ r ≡ withoutReference c word ⌝ }
+{
+    (0 < c.min) & (word <= c.n as u64)
+}
+
+// Whether the word is that of a window of kind 8 that holds a value of P: it was taken in s+min or later, so at most max - min cycles are left.
+fn has_reference(c: Config, word: u64) -> bool
+    requires { ⌜ (Good c) × (family (c .kind) ≡ stability) ⌝ }
+    ensures { λ r. ⌜ r ≡ withAReference c word ⌝ }
+{
+    if word < REFERENCE_HELD {
+        return false;
+    }
+    let p = c.p;
+    let left = word % REFERENCE_UNIT;
+    let reference = (word - REFERENCE_HELD) / REFERENCE_UNIT;
+    (0 < left) & (left <= (c.n - c.min) as u64) & (reference <= low_ones(p.width()))
 }

@@ -6,7 +6,7 @@ use lib.Dec.{eqb}
 use lib.Count.{ones-le}
 use Rattle.rules.specs.declared.config.Config.{Config}
 use Rattle.rules.specs.Config.{Family, family}
-use Rattle.rules.specs.Config.Family.{sequence, time, transition, none}
+use Rattle.rules.specs.Config.Family.{sequence, time, transition, value, stability, none}
 use Rattle.rules.specs.Possible.{openCount, openCountOf, wordRefusal}
 use Rattle.checker.specs.Calls.{CountAnswer}
 
@@ -19,6 +19,8 @@ unfolding openCountOf
 count-of-low sequence w h = ones-le 64 w h
 count-of-low time w h = at-most-one (eqb w 0)
 count-of-low transition w h = at-most-one (eqb w 0)
+count-of-low value w h = at-most-one (eqb w 0)
+count-of-low stability w h = at-most-one (eqb w 0)
 count-of-low none w h = omega arith
 
 pub count-low : (c : Config) (w refusal count : ℕ) → w < 2 ^ 64 → CountAnswer c w refusal count → count ≤ 64

@@ -1,15 +1,17 @@
--- The law of accepted starts, for every kind: a start is accepted unless the kind ignores starts and an accepted check is pending. Assumes nothing.
+-- The laws of accepted starts and of failures, for every kind: a start is accepted unless the kind ignores starts and an accepted check is pending; and where
+-- no check is violated in its own start cycle, the checks that fail are earlier ones. Assumes nothing.
 use Prim.Native.Nat.{ℕ, zero, suc, _<_}
 use mathlib.Core.Path.{_≡_, refl, ap, subst⁻¹, _∙_}
-use mathlib.Core.Bool.{Bool, false, not, _&&_}
+use mathlib.Core.Bool.{Bool, false, not, _&&_, _||_, or-false}
 use mathlib.Core.List.{[], _∷_}
 use mathlib.Core.Logic.{⊎-elim}
 use native.Mathlib.Nat.{not-suc-le-zero, eq-or-lt-of-le, le-of-suc-le-suc}
 use native.Mathlib.Numerals.{add-one}
 use lib.ListN.{length, getD, length-append, List·getD-append}
 use lib.Seq.{getD-at}
+use Rattle.bits.specs.Bits.{some}
 use Rattle.bits.proofs.Tests.{some-ext}
-use Rattle.rules.specs.Checks.{Checks, accept, acceptedBefore, accepted, busy}
+use Rattle.rules.specs.Checks.{Checks, accept, acceptedBefore, accepted, busy, fails}
 
 module _ (k : Checks) where
   before-length : (t : ℕ) → length (acceptedBefore k t) ≡ t
@@ -38,3 +40,8 @@ module _ (k : Checks) where
       ap (λ (b : Bool). k .starts t && not (k .ignores && b))
       (some-ext t (λ s. getD (acceptedBefore k t) s false && k .pending s t) (λ s. accepted k s && k .pending s t)
       (λ s l. ap (λ (b : Bool). b && k .pending s t) (before-at t s l)))
+
+  pub fails-earlier : (t : ℕ) → (accepted k t && k .violated t t) ≡ false → fails k t ≡ some t (λ s. accepted k s && k .violated s t)
+  unfolding fails some
+  fails-earlier t e =
+      let earlier = some t (λ s. accepted k s && k .violated s t) in ap (λ (b : Bool). earlier || b) e ∙ or-false earlier

@@ -1,11 +1,15 @@
--- Frames of given words of 32 bits are proper. Assumes nothing.
+-- Frames of given words of 32 bits are proper, and one in reset leaves the word 0. Assumes nothing.
 use Prim.Native.Nat.{ℕ, zero, suc, _^_, _<_}
 use mathlib.Core.Path.{refl}
 use mathlib.Core.List.{[], _∷_}
 use lib.Dec.{lit<}
 use lib.ListN.{getD}
 use Rattle.rules.specs.declared.frame.Frame.{Frame}
-use Rattle.rules.specs.Frame.{Proper}
+use Rattle.rules.specs.declared.config.Config.{Config}
+use Rattle.bits.specs.Bits.{bit}
+use Rattle.rules.specs.Frame.{Proper, up}
+use Rattle.rules.specs.Rules.{word}
+use Rattle.rules.specs.Possible.{Left}
 
 -- reset, P, Q, R
 abbrev pub frameOf : ℕ → ℕ → ℕ → ℕ → Frame
@@ -20,3 +24,13 @@ frame-proper n p q r hn hp hq hr = record { words = refl; small = small }
     small (suc (suc zero)) = hq
     small (suc (suc (suc zero))) = hr
     small (suc (suc (suc (suc i)))) = lit< tt
+
+pub zero-left : (c : Config) → Left c 0
+unfolding word up bit
+zero-left c = record {
+  trace = λ t. frameOf 0 0 0 0;
+  cycle = 0;
+  short = lit< tt;
+  proper = λ t. frame-proper 0 0 0 0 (lit< tt) (lit< tt) (lit< tt) (lit< tt);
+  leaves = refl;
+}

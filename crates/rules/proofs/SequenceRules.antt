@@ -23,11 +23,19 @@ use Rattle.rules.specs.Checks.{Checks, accepted, busy, fails}
 use Rattle.rules.specs.Sequence.{event, alive, attemptTested, sequenceChecks, mostSeen, attempts}
 use Rattle.rules.specs.Rules.{marksOf, openOf, word, wordBefore}
 use Rattle.rules.specs.Step.{startsAttempt, attempt, attemptFails, stepMarksOf, stepOpenOf}
-use Rattle.rules.proofs.Accepted.{accepted-law}
+use Rattle.rules.proofs.Accepted.{accepted-law, fails-earlier}
 
 and-again : (a b : Bool) → (a && b && a) ≡ (a && b)
 and-again true b = and-true b
 and-again false b = refl
+
+-- u for out of reset, b for the event
+has-event : (u b x y z : Bool) → (u && b && x && (u && y && not b && z)) ≡ false
+has-event false b x y z = refl
+has-event true false x y z = refl
+has-event true true false y z = refl
+has-event true true true true z = refl
+has-event true true true false z = refl
 
 -- of m = k + 1 tests, the last one alone
 some-last : (m k : ℕ) (f : ℕ → Bool) → m ≡ suc k → some m (λ j. f j && eqb (suc j) m) ≡ f k
@@ -146,6 +154,15 @@ module _ (c : Config) (tr : Trace) where
   pub bit-young : family (c .kind) ≡ sequence → (t j : ℕ) → T (bit (wordBefore c tr t) j) → j < t
   bit-young f t j h = young t j (bit-holds (c .n - 1) (running t) j (rw (before-running f t) at h))
 
+  -- an accepted attempt has its first event, so it is not violated where it starts
+  pub not-at-start : (t : ℕ) → (accepted checks t && checks .violated t t) ≡ false
+  unfolding sequenceChecks event
+  not-at-start t =
+      let first : c .n - 1 - (t - t) ≡ c .n - 1 = omega arith in
+      rw (accepted-law checks t, first)
+      (has-event (up (tr t)) (bit (P c (tr t)) (c .n - 1)) (not (eqb (c .kind) 2 && busy checks t)) (attemptTested c tr t t)
+      (not (eqb (c .kind) 0) || eqb (t - t) (c .n - 1)))
+
   -- ---- the step, over the word of the running attempts
 
   busy-word : (t : ℕ) → busy checks t ≡ not (eqb (runs t) 0)
@@ -164,9 +181,10 @@ module _ (c : Config) (tr : Trace) where
 
     module _ (two : 2 ≤ c .n) where
       failure : fails checks t ≡ attemptFails c (runs t) (tr t)
-      unfolding fails sequenceChecks attemptFails attemptTested
+      unfolding sequenceChecks attemptFails attemptTested
       failure =
-          simp (here, and-assoc)
+          fails-earlier checks t (not-at-start t)
+          ∙ simp (here, and-assoc)
           (simp and-assoc at (by-age t (λ d. not (bit (P c (tr t)) (c .n - 1 - d)) && (not (eqb (c .kind) 0) || eqb d (c .n - 1))))
           ∙ ⊎-elim
           (λ (e : eqb (c .kind) 0 ≡ true).

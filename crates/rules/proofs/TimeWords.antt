@@ -1,10 +1,9 @@
--- Kinds 3 to 5: the words that traces leave are those up to n. A step sets the count to n or takes 1 off, so no trace leaves more. With a start in
+-- Kinds 3 to 5: the words that traces leave are those up to n. The count of the cycles left is at most n, so no trace leaves more. With a start in
 -- cycle 0 only and no reset, the word after cycle t is n − t, so each word up to n is left. Assumes nothing.
 use Prim.Native.Nat.{ℕ, zero, suc, _-_, _≤_}
 use mathlib.Core.Path.{_≡_, refl, ap, _∙_}
-use mathlib.Core.Bool.{Bool, true, false, not, _&&_, _||_, cond}
+use mathlib.Core.Bool.{true}
 use native.Mathlib.Omega.{arith}
-use native.Mathlib.Nat.{le-refl}
 use lib.Dec.{T, eqb, leb→le, le→leb, lit<, eqb·suc-zero}
 use Rattle.bits.specs.Bits.{bit, toBit}
 use Rattle.bus.specs.Range.{width, within}
@@ -18,35 +17,22 @@ use Rattle.rules.specs.Rules.{word, wordBefore}
 use Rattle.rules.specs.Step.{start, pends, left, stepOpenOf}
 use Rattle.rules.specs.Possible.{possibleOf, Left}
 use Rattle.rules.proofs.Frames.{frameOf, frame-proper}
-use Rattle.rules.proofs.TimeRules.{time-open}
+use Rattle.rules.proofs.TimeRules.{count-low, time-open}
 
-set-or-less : (a : Bool) (n w : ℕ) → w ≤ n → cond a n (w - 1) ≤ n
-set-or-less true n w h = le-refl n
-set-or-less false n w h = omega arith
-
-module _ (c : Config) (tr : Trace) (n : 1 ≤ c .n) (k : family (c .kind) ≡ time) where
+module _ (c : Config) (tr : Trace) (k : family (c .kind) ≡ time) where
   word-left : (t : ℕ) → up (tr t) ≡ true → word c tr t ≡ left c (wordBefore c tr t) (tr t)
   unfolding word stepOpenOf
-  word-left t u = rw (u, k) (time-open c tr n k t u)
-
-  at-most : (t : ℕ) → wordBefore c tr t ≤ c .n
-  unfolding wordBefore word left
-  at-most zero = omega arith
-  at-most (suc t) = by (wordBefore c tr t) (at-most t) (word-left t) (up (tr t)) refl
-    where
-      by : (w : ℕ) → w ≤ c .n → (up (tr t) ≡ true → word c tr t ≡ left c w (tr t)) → (b : Bool) → up (tr t) ≡ b → word c tr t ≤ c .n
-      by w h e true u = rw (e u) (set-or-less (start c w (tr t) && (not (pends c w (tr t)) || eqb (c .kind) 4)) (c .n) w h)
-      by w h e false u = rw u (omega arith)
+  word-left t u = rw (u, k) (time-open c tr k t u)
 
   pub time-possible : (t : ℕ) → T (possibleOf time c (word c tr t))
   unfolding possibleOf wordBefore
-  time-possible t = le→leb (word c tr t) (c .n) (at-most (suc t))
+  time-possible t = le→leb (word c tr t) (c .n) (count-low c tr k (suc t))
 
 -- a start in cycle 0 only
 once : Config → Trace
 once c t = frameOf 1 (wiresFor (c .p) (toBit (eqb t 0))) 0 0
 
-module _ (c : Config) (n : 1 ≤ c .n) (k : family (c .kind) ≡ time) (v : width (c .p) ≡ 1) (g : T (within (c .p))) where
+module _ (c : Config) (k : family (c .kind) ≡ time) (v : width (c .p) ≡ 1) (g : T (within (c .p))) where
   starts : (w t : ℕ) → start c w (once c t) ≡ eqb t 0
   unfolding start once
   starts w t =
@@ -54,8 +40,8 @@ module _ (c : Config) (n : 1 ≤ c .n) (k : family (c .kind) ≡ time) (v : widt
 
   counted : (t : ℕ) → word c (once c) t ≡ c .n - t
   unfolding up bit once wordBefore left pends
-  counted zero = word-left c (once c) n k 0 refl ∙ rw (starts 0 0) (omega arith)
-  counted (suc t) = word-left c (once c) n k (suc t) refl ∙ rw (starts (word c (once c) t) (suc t), eqb·suc-zero t, counted t) (omega arith)
+  counted zero = word-left c (once c) k 0 refl ∙ rw (starts 0 0) (omega arith)
+  counted (suc t) = word-left c (once c) k (suc t) refl ∙ rw (starts (word c (once c) t) (suc t), eqb·suc-zero t, counted t) (omega arith)
 
   pub time-left : c .n ≤ maxWindow → (w : ℕ) → T (possibleOf time c w) → Left c w
   unfolding possibleOf once

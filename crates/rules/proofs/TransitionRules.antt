@@ -16,7 +16,7 @@ use Rattle.rules.specs.Checks.{Checks, accepted, fails}
 use Rattle.rules.specs.Transition.{transitionChecks, stored}
 use Rattle.rules.specs.Rules.{checkMarks, marksOf, openOf, word, wordBefore}
 use Rattle.rules.specs.Step.{pends, stepMarksOf, stepOpenOf}
-use Rattle.rules.proofs.Accepted.{accepted-law}
+use Rattle.rules.proofs.Accepted.{accepted-law, fails-earlier}
 
 -- a value is stored, and the test differs from it
 pub value-fails : (a : Bool) (p r : ℕ) → (a && not (eqb p r)) ≡ (ltb 0 (cond a (2 ^ 32 + r) 0) && not (eqb p (cond a (2 ^ 32 + r) 0 - 2 ^ 32)))
@@ -48,10 +48,11 @@ module _ (c : Config) (tr : Trace) where
     word-stored t = rw (k, start-accepted t) (in-reset (up (tr t)) (eqb (P c (tr t)) (Q c (tr t))) (2 ^ 32 + R c (tr t)))
 
     failure-law : (t : ℕ) → up (tr t) ≡ true → fails checks t ≡ (ltb 0 (wordBefore c tr t) && not (eqb (P c (tr t)) (wordBefore c tr t - 2 ^ 32)))
-    unfolding fails some wordBefore transitionChecks stored
-    failure-law zero u = refl
+    unfolding some wordBefore transitionChecks stored
+    failure-law zero u = fails-earlier checks 0 (rw u (and-false (accepted checks 0)))
     failure-law (suc s) u =
-        rw (older, u, eq-eqb (suc s) (suc s) refl, word-stored s) (value-fails (accepted checks s) (P c (tr (suc s))) (R c (tr s)))
+        fails-earlier checks (suc s) (rw (u, ne-eqb (suc s) (suc (suc s)) (omega arith)) (and-false (accepted checks (suc s))))
+        ∙ rw (older, u, eq-eqb (suc s) (suc s) refl, word-stored s) (value-fails (accepted checks s) (P c (tr (suc s))) (R c (tr s)))
       where
         failed : ℕ → Bool
         failed i = accepted checks i && checks .violated i (suc s)

@@ -19,7 +19,7 @@ use Rattle.rules.specs.Transition.{transitionChecks, stored}
 use Rattle.rules.specs.Rules.{word}
 use Rattle.rules.specs.Step.{stepOpenOf}
 use Rattle.rules.specs.Possible.{possibleOf, Left}
-use Rattle.rules.proofs.Frames.{frameOf, frame-proper}
+use Rattle.rules.proofs.Frames.{frameOf, frame-proper, zero-left}
 use Rattle.rules.proofs.TransitionRules.{word-stored, transition-open}
 
 -- whether the word w holds a value that fits the width of P
@@ -38,16 +38,6 @@ transition-possible c tr k e t = rw (word-stored c tr k t) (fits (accepted (tran
         (and-intro (leb (2 ^ 32) w) (ltb (w - 2 ^ 32) (2 ^ width (c .p))) (le→leb (2 ^ 32) w (omega arith))
         (lt→ltb (w - 2 ^ 32) (2 ^ width (c .p)) (omega (arith, rw e at (value-lt (c .r) (sample (tr t) 3))))))
     fits false = tt
-
-zero-left : (c : Config) → Left c 0
-unfolding word up bit
-zero-left c = record {
-  trace = λ t. frameOf 0 0 0 0;
-  cycle = 0;
-  short = lit< tt;
-  proper = λ t. frame-proper 0 0 0 0 (lit< tt) (lit< tt) (lit< tt) (lit< tt);
-  leaves = refl;
-}
 
 value-left : (c : Config) → family (c .kind) ≡ transition → T (within (c .r)) → (v : ℕ) → v < 2 ^ width (c .r) → Left c (2 ^ 32 + v)
 unfolding word up bit stepOpenOf

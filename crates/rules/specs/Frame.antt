@@ -1,7 +1,7 @@
--- A frame and the values of a checker's ports in it, from document 01, "Wires, buses and frames". Assumes nothing.
+-- A frame and the values of a checker's ports in it, from document 01, "Wires, buses and frames", and document 02, §4. Assumes nothing.
 use Prim.Native.Nat.{ℕ, _^_, _<_}
 use mathlib.Core.Path.{_≡_}
-use mathlib.Core.Bool.{Bool}
+use mathlib.Core.Bool.{Bool, _&&_}
 use lib.ListN.{length, getD}
 use Rattle.bits.specs.Bits.{bit}
 use Rattle.bus.specs.Range.{valueOf}
@@ -24,6 +24,10 @@ pub record Proper (f : Frame) : Type 0 where
 -- "Reset_n is bit 0 of the first word; other bits there are ignored." Whether the frame is out of reset.
 unfoldable pub up : Frame → Bool
 up f = bit (sample f 0) 0
+
+-- "Enable is reset word bit 1." Whether the frame is enabled, which one in reset is not.
+unfoldable pub enabled : Frame → Bool
+enabled f = up f && bit (sample f 0) 1
 
 -- the values of the ports P, Q and R
 abbrev pub P : Config → Frame → ℕ

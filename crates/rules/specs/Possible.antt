@@ -1,4 +1,5 @@
--- Which open words are possible, the refusal of another to go on from, and how many checks one says are unfinished, from document 01. Assumes nothing.
+-- Which open words are possible, the refusal of another to go on from, and how many checks one says are unfinished, from document 01 and document 02, §4.
+-- Assumes nothing.
 use Prim.Native.Nat.{ℕ, _-_, _^_, _<_}
 use mathlib.Core.Path.{_≡_}
 use mathlib.Core.Bool.{Bool, false, not, _&&_, _||_, cond}
@@ -7,16 +8,27 @@ use lib.Count.{ones}
 use Rattle.bus.specs.Range.{width}
 use Rattle.rules.specs.declared.config.Config.{Config}
 use Rattle.rules.specs.Config.{Family, family, configRefusal}
-use Rattle.rules.specs.Config.Family.{sequence, time, transition, none}
+use Rattle.rules.specs.Config.Family.{sequence, time, transition, value, stability, none}
 use Rattle.rules.specs.Frame.{Trace, Proper}
 use Rattle.rules.specs.Rules.{word}
+use Rattle.rules.specs.Step.{leftIn, holds, referenceIn}
+
+-- kind 8: 1 to max cycles left without a reference, where min is above 0; or 1 to max−min with a reference below 2^width(P)
+unfoldable pub withoutReference : Config → ℕ → Bool
+withoutReference c w = ltb 0 (c .min) && leb w (c .n)
+
+unfoldable pub withAReference : Config → ℕ → Bool
+withAReference c w = holds w && (ltb 0 (leftIn w) && leb (leftIn w) (c .n - c .min)) && ltb (referenceIn w) (2 ^ width (c .p))
 
 -- "A word is possible when: kinds 0 and 1, below 2^(n−1); kind 2, also at most one bit set; kinds 3 to 5, at most n; kind 6, 0 or 2^32 plus a value
--- that fits the width."
+-- that fits the width." Of kinds 7 and 8 "a word is possible exactly when some trace leaves it": `words-possible` and `possible-left` of
+-- `proofs/Claims.antt`.
 unfoldable pub possibleOf : Family → Config → ℕ → Bool
 possibleOf sequence c w = ltb w (2 ^ (c .n - 1)) && (not (eqb (c .kind) 2) || leb (ones w) 1)
 possibleOf time c w = leb w (c .n)
 possibleOf transition c w = eqb w 0 || (leb (2 ^ 32) w && ltb (w - 2 ^ 32) (2 ^ width (c .p)))
+possibleOf value c w = leb w (c .n)
+possibleOf stability c w = eqb w 0 || withoutReference c w || withAReference c w
 possibleOf none c w = false
 
 unfoldable pub possible : Config → ℕ → Bool
@@ -39,6 +51,8 @@ unfoldable pub openCountOf : Family → ℕ → ℕ
 openCountOf sequence w = ones w
 openCountOf time w = cond (eqb w 0) 0 1
 openCountOf transition w = cond (eqb w 0) 0 1
+openCountOf value w = cond (eqb w 0) 0 1
+openCountOf stability w = cond (eqb w 0) 0 1
 openCountOf none w = 0
 
 unfoldable pub openCount : Config → ℕ → ℕ

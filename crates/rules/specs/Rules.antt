@@ -1,16 +1,17 @@
--- The row and the open word of every cycle of a trace, from document 01, "Seven checkers". Assumes nothing.
+-- The row and the open word of every cycle of a trace, from document 01, "Seven checkers", and document 02, §4. Assumes nothing.
 use Prim.Native.Nat.{ℕ, zero, suc, _+_, _*_}
 use mathlib.Core.Bool.{Bool, false, cond}
 use lib.Dec.{eqb}
 use Rattle.bits.specs.Bits.{toBit}
 use Rattle.rules.specs.declared.config.Config.{Config}
 use Rattle.rules.specs.Config.{Family, family}
-use Rattle.rules.specs.Config.Family.{sequence, time, transition, none}
+use Rattle.rules.specs.Config.Family.{sequence, time, transition, value, stability, none}
 use Rattle.rules.specs.Frame.{Trace, up}
-use Rattle.rules.specs.Checks.{accepted, fails}
+use Rattle.rules.specs.Checks.{Checks, accepted, fails}
 use Rattle.rules.specs.Sequence.{sequenceChecks, mostSeen, attempts}
 use Rattle.rules.specs.Time.{timeChecks, windowOpened, windowReset, illegalStart, windowClosed, cyclesLeft}
 use Rattle.rules.specs.Transition.{transitionChecks, stored}
+use Rattle.rules.specs.Trigger.{valueChecks, stabilityChecks, windowEnds, valueLeft, stabilityLeft}
 
 -- "A row holds a cycle's marks, summed: 1 failure; 2 illegal start; 4 trigger, window opened, or start state seen; 8 window closed; 16 window reset."
 pub record Marks : Type 0 where
@@ -31,6 +32,13 @@ rowOf m = 1 * toBit (m .failure) + 2 * toBit (m .illegal) + 4 * toBit (m .opened
 abbrev pub checkMarks : Bool → Bool → Marks
 checkMarks failure opened = record { failure = failure; illegal = false; opened = opened; closed = false; restarted = false }
 
+-- the marks of a cycle where also a window can be closed: "Marks are 1, 4 at the trigger, 8 at s+max."
+abbrev pub windowMarks : Bool → Bool → Bool → Marks
+windowMarks failure opened closed = record { failure = failure; illegal = false; opened = opened; closed = closed; restarted = false }
+
+abbrev pub triggerMarks : Checks → Config → Trace → ℕ → Marks
+triggerMarks k c tr t = windowMarks (fails k t) (accepted k t) (windowEnds c tr k t)
+
 -- The marks that a family's rules give for a cycle out of reset. Mark 1 in every family: some accepted start has its required check violated there.
 unfoldable pub marksOf : Family → Config → Trace → ℕ → Marks
 marksOf sequence c tr t =
@@ -43,6 +51,8 @@ marksOf time c tr t = record {
   restarted = windowReset c tr t;
 }
 marksOf transition c tr t = checkMarks (fails (transitionChecks c tr) t) (accepted (transitionChecks c tr) t)
+marksOf value c tr t = triggerMarks (valueChecks c tr) c tr t
+marksOf stability c tr t = triggerMarks (stabilityChecks c tr) c tr t
 marksOf none c tr t = checkMarks false false
 
 -- "The open word says what is unfinished after a cycle."
@@ -50,6 +60,8 @@ unfoldable pub openOf : Family → Config → Trace → ℕ → ℕ
 openOf sequence c tr t = attempts c tr t
 openOf time c tr t = cyclesLeft c tr t
 openOf transition c tr t = stored c tr t
+openOf value c tr t = valueLeft c tr t
+openOf stability c tr t = stabilityLeft c tr t
 openOf none c tr t = 0
 
 -- "A cycle with reset_n 0 has row 0 and open word 0, and ends every check."

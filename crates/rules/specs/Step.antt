@@ -1,16 +1,27 @@
 -- One step: the marks and the next open word, from the configuration, the open word and the frame alone. That these are the row and word of the rules
 -- is `step-is-rules` of `proofs/Claims.antt`. Assumes nothing.
-use Prim.Native.Nat.{ℕ, zero, suc, _+_, _-_, _^_}
+use Prim.Native.Nat.{ℕ, zero, suc, _+_, _-_, _/_, _%_, _^_}
 use mathlib.Core.Path.{_≡_}
 use mathlib.Core.Bool.{Bool, false, not, _&&_, _||_, cond}
-use lib.Dec.{ltb, eqb}
+use lib.Dec.{leb, ltb, eqb}
 use Rattle.bits.specs.Bits.{bit, some, number}
 use Rattle.rules.specs.declared.config.Config.{Config}
 use Rattle.rules.specs.declared.frame.Frame.{Frame}
 use Rattle.rules.specs.Config.{Family, family}
-use Rattle.rules.specs.Config.Family.{sequence, time, transition, none}
-use Rattle.rules.specs.Frame.{up, P, Q, R}
-use Rattle.rules.specs.Rules.{Marks, checkMarks, rowOf}
+use Rattle.rules.specs.Config.Family.{sequence, time, transition, value, stability, none}
+use Rattle.rules.specs.Frame.{up, enabled, P, Q, R}
+use Rattle.rules.specs.Trigger.{withReference}
+use Rattle.rules.specs.Rules.{Marks, checkMarks, windowMarks, rowOf}
+
+-- the parts of an open word of kind 8: the cycles left, whether it holds a reference, and the reference
+abbrev pub leftIn : ℕ → ℕ
+leftIn w = w % 2 ^ 16
+
+abbrev pub holds : ℕ → Bool
+holds w = leb (2 ^ 48) w
+
+abbrev pub referenceIn : ℕ → ℕ
+referenceIn w = (w - 2 ^ 48) / 2 ^ 16
 
 module _ (c : Config) (w : ℕ) (f : Frame) where
   -- ---- cycle sequence: bit j of the open word is an attempt that is now tested on event bit n−2−j
@@ -44,6 +55,30 @@ module _ (c : Config) (w : ℕ) (f : Frame) where
   unfoldable pub left : ℕ
   left = cond (start && (not pends || eqb (c .kind) 4)) (c .n) (w - 1)
 
+  -- ---- after a trigger: `before` is the number of cycles left to s+max, this one included
+
+  -- a trigger is accepted
+  unfoldable pub triggered : Bool
+  triggered = enabled f && eqb (Q c f) 1 && not pends
+
+  -- this cycle is in a window, and so many cycles are left after it
+  unfoldable pub opens : Bool
+  opens = pends || triggered
+
+  unfoldable pub after : ℕ → ℕ
+  after before = cond triggered (c .n) (before - 1)
+
+  -- it is tested: from s+min on at most max−min cycles are left
+  unfoldable pub tests : ℕ → Bool
+  tests before = enabled f && opens && leb (after before + c .min) (c .n)
+
+  unfoldable pub trackedMarks : ℕ → Bool → Marks
+  trackedMarks before wrong = windowMarks (tests before && wrong) triggered (opens && eqb (after before) 0)
+
+  -- what a window of kind 8 holds after this cycle
+  unfoldable pub held : ℕ
+  held = cond (holds w) (withReference (referenceIn w)) (cond (tests (leftIn w)) (withReference (P c f)) 0)
+
   -- ---- all kinds
 
   unfoldable pub stepMarksOf : Family → Marks
@@ -56,12 +91,16 @@ module _ (c : Config) (w : ℕ) (f : Frame) where
     restarted = restart;
   }
   stepMarksOf transition = checkMarks (pends && not (eqb (P c f) (w - 2 ^ 32))) (eqb (P c f) (Q c f))
+  stepMarksOf value = trackedMarks w (not (eqb (P c f) (c .value)))
+  stepMarksOf stability = trackedMarks (leftIn w) (holds w && not (eqb (P c f) (referenceIn w)))
   stepMarksOf none = checkMarks false false
 
   unfoldable pub stepOpenOf : Family → ℕ
   stepOpenOf sequence = number (c .n - 1) attempt
   stepOpenOf time = left
   stepOpenOf transition = cond (eqb (P c f) (Q c f)) (2 ^ 32 + R c f) 0
+  stepOpenOf value = after w
+  stepOpenOf stability = cond (eqb (after (leftIn w)) 0) 0 (after (leftIn w) + held)
   stepOpenOf none = 0
 
   -- the row and the next open word of one step

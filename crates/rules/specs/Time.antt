@@ -1,20 +1,12 @@
 -- Kinds 3 to 5, from document 01, "Time", and document 02, §2. Assumes nothing.
-use Prim.Native.Nat.{ℕ, zero, suc, _+_, _-_}
-use mathlib.Core.Bool.{Bool, not, _&&_, _||_, cond}
-use lib.Dec.{leb, ltb, eqb}
-use Rattle.bits.specs.Bits.{some, every}
+use Prim.Native.Nat.{ℕ, suc, _+_, _-_}
+use mathlib.Core.Bool.{Bool, not, _&&_, _||_}
+use lib.Dec.{eqb}
+use Rattle.bits.specs.Bits.{some}
 use Rattle.rules.specs.declared.config.Config.{Config}
 use Rattle.rules.specs.Frame.{Trace, up, P, Q}
 use Rattle.rules.specs.Checks.{Checks, accepted, busy}
-
--- f holds in each cycle after s and before t
-unfoldable pub between : ℕ → ℕ → (ℕ → Bool) → Bool
-between s t f = every t (λ u. leb u s || f u)
-
--- g at the last number below k at which f holds, and 0 where there is none
-unfoldable pub atLast : ℕ → (ℕ → Bool) → (ℕ → ℕ) → ℕ
-atLast zero f g = 0
-atLast (suc k) f g = cond (f k) (g k) (atLast k f g)
+use Rattle.rules.specs.Window.{windowAfter, atLast}
 
 module _ (c : Config) (tr : Trace) where
   -- start is 1 in cycle t, which is out of reset
@@ -31,7 +23,7 @@ module _ (c : Config) (tr : Trace) where
 
   -- "It is pending in s+1 to s+n", unless a reset or a restart in between has ended it. A failure does not end it.
   unfoldable pub windowPending : ℕ → ℕ → Bool
-  windowPending s t = ltb s t && leb t (s + c .n) && between s t (λ u. up (tr u) && not (restarts u))
+  windowPending = windowAfter (c .n) (λ u. up (tr u) && not (restarts u))
 
   -- "test 0 in such a cycle is a failure"; kind 4 at a new start "takes no test". "Start 1 while pending: kind 3 ignores it; kind 4 […] counts n cycles
   -- afresh from there; kind 5 […] carries on."

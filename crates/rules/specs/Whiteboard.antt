@@ -1,5 +1,5 @@
--- The twelve cases of document 01, "Whiteboard table", with the rows and words that it shows; the rows of H are those of document 02, §2. That the
--- rules give these is `whiteboard` of `proofs/Cases.antt`. Assumes nothing.
+-- The twelve cases of document 01, "Whiteboard table", with the rows and words that it shows; the rows of H are those of document 02, §2. Below them six cases of
+-- document 02, §4, worked by hand (`docs/requests/04.md`). That the rules give these is `whiteboard` of `proofs/Cases.antt`. Assumes nothing.
 use Prim.Native.Nat.{ℕ, zero, suc}
 use mathlib.Core.List.{List, [], _∷_}
 use lib.ListN.{getD, length}
@@ -8,15 +8,16 @@ use Rattle.rules.specs.declared.config.Config.{Config}
 use Rattle.rules.specs.Frame.{Trace}
 use Rattle.rules.specs.Rules.{row, word}
 
--- a checker, and what is sampled at P, Q and R in each cycle: "Reset_n is 1."
+-- a checker, and what is sampled at P, Q and R in each cycle: "Reset_n is 1." The reset words are 1 where none are given.
 pub record Case : Type 0 where
   pub config : Config
+  pub resets : List ℕ
   pub p : List ℕ
   pub q : List ℕ
   pub r : List ℕ
 
 abbrev pub traceOf : Case → Trace
-traceOf k t = record { samples = 1 ∷ getD (k .p) t 0 ∷ getD (k .q) t 0 ∷ getD (k .r) t 0 ∷ [] }
+traceOf k t = record { samples = getD (k .resets) t 1 ∷ getD (k .p) t 0 ∷ getD (k .q) t 0 ∷ getD (k .r) t 0 ∷ [] }
 
 -- f 0 to f (n − 1)
 abbrev pub tabFrom : ℕ → (ℕ → ℕ) → ℕ → List ℕ
@@ -29,7 +30,8 @@ range left right = record { left = left; right = right }
 -- kinds 0 to 2: P alone; kinds 3 to 5: P and Q, one wire each
 abbrev pub sequenceCase : ℕ → ℕ → Range → List ℕ → Case
 sequenceCase kind n p samples = record {
-  config = record { kind = kind; n = n; p = p; q = range 0 0; r = range 0 0 };
+  config = record { kind = kind; n = n; p = p; q = range 0 0; r = range 0 0; min = 0; value = 0 };
+  resets = [];
   p = samples;
   q = [];
   r = [];
@@ -37,7 +39,8 @@ sequenceCase kind n p samples = record {
 
 abbrev pub timeCase : ℕ → ℕ → List ℕ → List ℕ → Case
 timeCase kind n starts tests = record {
-  config = record { kind = kind; n = n; p = range 0 0; q = range 0 0; r = range 0 0 };
+  config = record { kind = kind; n = n; p = range 0 0; q = range 0 0; r = range 0 0; min = 0; value = 0 };
+  resets = [];
   p = starts;
   q = tests;
   r = [];
@@ -46,10 +49,21 @@ timeCase kind n starts tests = record {
 -- kind 6, all [2:0]
 abbrev pub transitionCase : List ℕ → List ℕ → List ℕ → Case
 transitionCase tests starts nexts = record {
-  config = record { kind = 6; n = 0; p = range 2 0; q = range 2 0; r = range 2 0 };
+  config = record { kind = 6; n = 0; p = range 2 0; q = range 2 0; r = range 2 0; min = 0; value = 0 };
+  resets = [];
   p = tests;
   q = starts;
   r = nexts;
+}
+
+-- kinds 7 and 8: P is the tracked value, Q the trigger
+abbrev pub triggerCase : ℕ → ℕ → ℕ → ℕ → Range → List ℕ → List ℕ → List ℕ → Case
+triggerCase kind min max value p resets tracked triggers = record {
+  config = record { kind = kind; n = max; p = p; q = range 0 0; r = range 0 0; min = min; value = value };
+  resets = resets;
+  p = tracked;
+  q = triggers;
+  r = [];
 }
 
 abbrev A : List ℕ
@@ -107,9 +121,41 @@ caseK = record { given = transitionCase (3 ∷ 4 ∷ 3 ∷ 0 ∷ 3 ∷ []) (3 �
 abbrev caseL : Entry
 caseL = record { given = transitionCase (3 ∷ 3 ∷ []) (3 ∷ 3 ∷ []) (4 ∷ 4 ∷ []); rows = 4 ∷ 5 ∷ []; words = 4294967300 ∷ 4294967300 ∷ [] }
 
--- the table
+-- reset_n 1 and enable 1
+abbrev enabled : List ℕ
+enabled = 3 ∷ 3 ∷ 3 ∷ 3 ∷ 3 ∷ 3 ∷ []
+
+-- the first trigger alone
+abbrev once : List ℕ
+once = 1 ∷ 0 ∷ 0 ∷ 0 ∷ 0 ∷ 0 ∷ []
+
+-- kind 7: the value is there in s+1 to s+3, and is not asked for in s and after s+3
+abbrev caseM : Entry
+caseM = record { given = triggerCase 7 1 3 5 (range 2 0) enabled (0 ∷ 5 ∷ 5 ∷ 5 ∷ 0 ∷ 0 ∷ []) once; rows = 4 ∷ 0 ∷ 0 ∷ 8 ∷ 0 ∷ 0 ∷ []; words = 3 ∷ 2 ∷ 1 ∷ 0 ∷ 0 ∷ 0 ∷ [] }
+
+-- kind 7 on [0:2]: the sample 6 is the value 3, and the sample 3 the value 6
+abbrev caseN : Entry
+caseN = record { given = triggerCase 7 1 3 6 (range 0 2) enabled (3 ∷ 6 ∷ 3 ∷ 6 ∷ 3 ∷ 3 ∷ []) once; rows = 4 ∷ 1 ∷ 0 ∷ 9 ∷ 0 ∷ 0 ∷ []; words = 3 ∷ 2 ∷ 1 ∷ 0 ∷ 0 ∷ 0 ∷ [] }
+
+-- kind 7: enable 0 in s+2 and s+3, which count and are not tested, and at a trigger
+abbrev caseO : Entry
+caseO = record { given = triggerCase 7 1 3 5 (range 2 0) (3 ∷ 3 ∷ 1 ∷ 1 ∷ 1 ∷ 3 ∷ []) (5 ∷ 4 ∷ 0 ∷ 0 ∷ 5 ∷ 5 ∷ []) (1 ∷ 0 ∷ 0 ∷ 0 ∷ 1 ∷ 1 ∷ []); rows = 4 ∷ 1 ∷ 0 ∷ 8 ∷ 0 ∷ 4 ∷ []; words = 3 ∷ 2 ∷ 1 ∷ 0 ∷ 0 ∷ 3 ∷ [] }
+
+-- kind 7 with min 0 and max 0: the trigger's own cycle alone
+abbrev caseP : Entry
+caseP = record { given = triggerCase 7 0 0 5 (range 2 0) enabled (5 ∷ 0 ∷ 4 ∷ 5 ∷ 4 ∷ 5 ∷ []) (1 ∷ 0 ∷ 1 ∷ 1 ∷ 0 ∷ 1 ∷ []); rows = 12 ∷ 0 ∷ 13 ∷ 12 ∷ 0 ∷ 12 ∷ []; words = 0 ∷ 0 ∷ 0 ∷ 0 ∷ 0 ∷ 0 ∷ [] }
+
+-- kind 8: enable 0 in s+1, so that the reference is the 6 of s+2
+abbrev caseQ : Entry
+caseQ = record { given = triggerCase 8 1 4 0 (range 2 0) (3 ∷ 1 ∷ 3 ∷ 3 ∷ 3 ∷ 3 ∷ []) (1 ∷ 2 ∷ 6 ∷ 6 ∷ 3 ∷ 0 ∷ []) once; rows = 4 ∷ 0 ∷ 0 ∷ 0 ∷ 9 ∷ 0 ∷ []; words = 4 ∷ 3 ∷ 281474977103874 ∷ 281474977103873 ∷ 0 ∷ 0 ∷ [] }
+
+-- kind 8 with min 0: the reference is that of s, and the trigger of s+2 is ignored
+abbrev caseR : Entry
+caseR = record { given = triggerCase 8 0 2 0 (range 2 0) enabled (3 ∷ 3 ∷ 3 ∷ 2 ∷ 2 ∷ 2 ∷ []) (1 ∷ 1 ∷ 1 ∷ 1 ∷ 0 ∷ 0 ∷ []); rows = 4 ∷ 0 ∷ 8 ∷ 4 ∷ 0 ∷ 8 ∷ []; words = 281474976907266 ∷ 281474976907265 ∷ 0 ∷ 281474976841730 ∷ 281474976841729 ∷ 0 ∷ [] }
+
+-- the table, and the cases below it
 abbrev pub table : List Entry
-table = caseA ∷ caseB ∷ caseC ∷ caseD ∷ caseE ∷ caseF ∷ caseG ∷ caseH ∷ caseI ∷ caseJ ∷ caseK ∷ caseL ∷ []
+table = caseA ∷ caseB ∷ caseC ∷ caseD ∷ caseE ∷ caseF ∷ caseG ∷ caseH ∷ caseI ∷ caseJ ∷ caseK ∷ caseL ∷ caseM ∷ caseN ∷ caseO ∷ caseP ∷ caseQ ∷ caseR ∷ []
 
 -- the same case with the rows and words that the rules give
 abbrev pub byRules : Entry → Entry

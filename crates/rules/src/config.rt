@@ -1,7 +1,7 @@
 // A checker's configuration, and the limits of its n.
 use bus::Range;
 
-// The events of kinds 0 to 2, and the cycles of a window of kinds 3 to 5.
+// The events of kinds 0 to 2, and the cycles of a window: at least of kinds 3 to 5, and at most of kinds 3 to 5, 7 and 8.
 pub const MIN_EVENTS: u32 = 2;
 
 pub const MAX_EVENTS: u32 = 32;
@@ -10,7 +10,10 @@ pub const MIN_WINDOW: u32 = 1;
 
 pub const MAX_WINDOW: u32 = 1024;
 
-// The kind, num_cks, and the declared ranges of the ports P, Q and R.
+// The highest kind.
+pub const MAX_KIND: u8 = 8;
+
+// The kind, num_cks or max, the declared ranges of the ports P, Q and R, and of kinds 7 and 8 min and the expected value, 0 where unused.
 #[repr(C)]
 pub struct Config {
     pub kind: u8,
@@ -18,4 +21,6 @@ pub struct Config {
     pub p: Range,
     pub q: Range,
     pub r: Range,
+    pub min: u32,
+    pub value: u32,
 }

@@ -2,9 +2,11 @@
 mod config;
 mod frame;
 mod marks;
+mod reference;
 
 pub use config::Config;
 pub use config::MAX_EVENTS;
+pub use config::MAX_KIND;
 pub use config::MAX_WINDOW;
 pub use config::MIN_EVENTS;
 pub use config::MIN_WINDOW;
@@ -16,3 +18,5 @@ pub use marks::ILLEGAL_START;
 pub use marks::MARKS;
 pub use marks::OPENED;
 pub use marks::RESTARTED;
+pub use reference::REFERENCE_HELD;
+pub use reference::REFERENCE_UNIT;

@@ -22,13 +22,26 @@ pub extern "C" fn selvedgeon_check(
     q_right: u8,
     r_left: u8,
     r_right: u8,
+    min: u32,
+    value: u32,
     trace: &[u32],
     rows: &mut [u32],
     words: &mut [u64],
 ) -> u32
-    ensures { λ answer. ⌜ CheckAnswer (configOf kind n «p_left» «p_right» «q_left» «q_right» «r_left» «r_right») (now (trace .entry)) (now (rows .entry)) (now (words .entry)) (now (rows .exit)) (now (words .exit)) answer ⌝ }
+    ensures { λ answer. ⌜ CheckAnswer (configOf kind n «p_left» «p_right» «q_left» «q_right» «r_left» «r_right» min value) (now (trace .entry)) (now (rows .entry)) (now (words .entry)) (now (rows .exit)) (now (words .exit)) answer ⌝ }
 {
-    let config = config_of(kind, n, p_left, p_right, q_left, q_right, r_left, r_right);
+    let config = config_of(
+        kind,
+        n,
+        p_left,
+        p_right,
+        q_left,
+        q_right,
+        r_left,
+        r_right,
+        min,
+        value,
+    );
     full_check(config, trace, rows, words)
 }
 
@@ -44,6 +57,8 @@ pub extern "C" fn selvedgeon_recheck(
     q_right: u8,
     r_left: u8,
     r_right: u8,
+    min: u32,
+    value: u32,
     trace: &[u32],
     rows: &mut [u32],
     words: &mut [u64],
@@ -51,9 +66,20 @@ pub extern "C" fn selvedgeon_recheck(
     b: u64,
     answer: &mut [i32],
 ) -> u32
-    ensures { λ refusal. ⌜ HostRecheck (configOf kind n «p_left» «p_right» «q_left» «q_right» «r_left» «r_right») (now (trace .entry)) (now (rows .entry)) (now (words .entry)) a b (now (answer .entry)) (now (rows .exit)) (now (words .exit)) (now (answer .exit)) refusal ⌝ }
+    ensures { λ refusal. ⌜ HostRecheck (configOf kind n «p_left» «p_right» «q_left» «q_right» «r_left» «r_right» min value) (now (trace .entry)) (now (rows .entry)) (now (words .entry)) a b (now (answer .entry)) (now (rows .exit)) (now (words .exit)) (now (answer .exit)) refusal ⌝ }
 {
-    let config = config_of(kind, n, p_left, p_right, q_left, q_right, r_left, r_right);
+    let config = config_of(
+        kind,
+        n,
+        p_left,
+        p_right,
+        q_left,
+        q_right,
+        r_left,
+        r_right,
+        min,
+        value,
+    );
     recheck_into(config, trace, rows, words, a, b, answer)
 }
 
@@ -78,11 +104,24 @@ pub extern "C" fn selvedgeon_failures(
     q_right: u8,
     r_left: u8,
     r_right: u8,
+    min: u32,
+    value: u32,
     trace: &[u32],
     list: &mut [u32],
 ) -> u64
-    ensures { λ answer. ⌜ ListAnswer (configOf kind n «p_left» «p_right» «q_left» «q_right» «r_left» «r_right») (now (trace .entry)) (now (list .entry)) (now (list .exit)) (answer / 4294967296) (answer % 4294967296) ⌝ }
+    ensures { λ answer. ⌜ ListAnswer (configOf kind n «p_left» «p_right» «q_left» «q_right» «r_left» «r_right» min value) (now (trace .entry)) (now (list .entry)) (now (list .exit)) (answer / 4294967296) (answer % 4294967296) ⌝ }
 {
-    let config = config_of(kind, n, p_left, p_right, q_left, q_right, r_left, r_right);
+    let config = config_of(
+        kind,
+        n,
+        p_left,
+        p_right,
+        q_left,
+        q_right,
+        r_left,
+        r_right,
+        min,
+        value,
+    );
     packed_failures(config, trace, list)
 }

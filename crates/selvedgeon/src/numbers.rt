@@ -19,11 +19,24 @@ pub extern "C" fn selvedgeon_open_count(
     q_right: u8,
     r_left: u8,
     r_right: u8,
+    min: u32,
+    value: u32,
     word: u64,
 ) -> u32
-    ensures { λ answer. ⌜ CountAnswer (configOf kind n «p_left» «p_right» «q_left» «q_right» «r_left» «r_right») word (answer / 256) (answer % 256) ⌝ }
+    ensures { λ answer. ⌜ CountAnswer (configOf kind n «p_left» «p_right» «q_left» «q_right» «r_left» «r_right» min value) word (answer / 256) (answer % 256) ⌝ }
 {
-    let config = config_of(kind, n, p_left, p_right, q_left, q_right, r_left, r_right);
+    let config = config_of(
+        kind,
+        n,
+        p_left,
+        p_right,
+        q_left,
+        q_right,
+        r_left,
+        r_right,
+        min,
+        value,
+    );
     packed_open_count(config, word)
 }
 

@@ -1,4 +1,4 @@
-// The twelve cases, as the table shows them: the case, the checker, the samples, and the rows and words of the full check.
+// The twelve cases, as the table shows them, and six of kinds 7 and 8 below them: the case, the checker, the samples, and the rows and words of the full check.
 use bus::Range;
 use record::full_check;
 use rules::Config;
@@ -16,6 +16,8 @@ pub fn sequence(kind: u8, n: u32, p: Range) -> Config {
         p,
         q: range(0, 0),
         r: range(0, 0),
+        min: 0,
+        value: 0,
     }
 }
 
@@ -26,28 +28,33 @@ pub fn time(kind: u8, n: u32) -> Config {
 
 // Six cycles out of reset.
 pub fn six(p: [u32; 6], q: [u32; 6]) -> [u32; 24] {
+    six_with([1; 6], p, q)
+}
+
+// Six cycles with their reset words.
+fn six_with(resets: [u32; 6], p: [u32; 6], q: [u32; 6]) -> [u32; 24] {
     [
-        1,
+        resets[0],
         p[0],
         q[0],
         0,
-        1,
+        resets[1],
         p[1],
         q[1],
         0,
-        1,
+        resets[2],
         p[2],
         q[2],
         0,
-        1,
+        resets[3],
         p[3],
         q[3],
         0,
-        1,
+        resets[4],
         p[4],
         q[4],
         0,
-        1,
+        resets[5],
         p[5],
         q[5],
         0,
@@ -188,6 +195,8 @@ pub fn transitions() {
         p: range(2, 0),
         q: range(2, 0),
         r: range(2, 0),
+        min: 0,
+        value: 0,
     };
     let t = [3, 4, 3, 0, 3];
     let s = [3u32; 5];
@@ -204,4 +213,94 @@ pub fn transitions() {
     let mut rows = [0u32; 2];
     let mut words = [0u64; 2];
     end(c, &trace, &mut rows, &mut words);
+}
+
+// A checker of kind 7 or 8 on P, with the trigger on wire 0 of Q.
+fn after_trigger(kind: u8, min: u32, max: u32, value: u32, p: Range) -> Config {
+    Config {
+        kind,
+        n: max,
+        p,
+        q: range(0, 0),
+        r: range(0, 0),
+        min,
+        value,
+    }
+}
+
+fn tracked(line: &[u8], c: Config, enables: [u32; 6], triggers: [u32; 6], p: [u32; 6]) {
+    begin(line);
+    report::spaced_numbers(&enables);
+    report::text(b", trigger");
+    report::spaced_numbers(&triggers);
+    report::text(b", P");
+    report::spaced_numbers(&p);
+    end_of_six(c, six_with(resets(enables), p, triggers));
+}
+
+// The reset words with these enables, out of reset.
+fn resets(enables: [u32; 6]) -> [u32; 6] {
+    [
+        1 | (enables[0] << 1),
+        1 | (enables[1] << 1),
+        1 | (enables[2] << 1),
+        1 | (enables[3] << 1),
+        1 | (enables[4] << 1),
+        1 | (enables[5] << 1),
+    ]
+}
+
+pub fn after_triggers() {
+    let on = [1u32; 6];
+    let once = [1, 0, 0, 0, 0, 0];
+    let five = after_trigger(7, 1, 3, 5, range(2, 0));
+    let turned = after_trigger(7, 1, 3, 6, range(0, 2));
+    let own_cycle = after_trigger(7, 0, 0, 5, range(2, 0));
+    let late = after_trigger(8, 1, 4, 0, range(2, 0));
+    let early = after_trigger(8, 0, 2, 0, range(2, 0));
+    report::text(
+        b"\nKinds 7 and 8:\n| | checker | samples | rows | words |\n|---|---|---|---|---|\n",
+    );
+    tracked(
+        b"M | 7, 1 to 3, value 5, [2:0] | enable",
+        five,
+        on,
+        once,
+        [0, 5, 5, 5, 0, 0],
+    );
+    tracked(
+        b"N | 7, 1 to 3, value 6, [0:2] | enable",
+        turned,
+        on,
+        once,
+        [3, 6, 3, 6, 3, 3],
+    );
+    tracked(
+        b"O | 7, 1 to 3, value 5, [2:0] | enable",
+        five,
+        [1, 1, 0, 0, 0, 1],
+        [1, 0, 0, 0, 1, 1],
+        [5, 4, 0, 0, 5, 5],
+    );
+    tracked(
+        b"P | 7, 0 to 0, value 5, [2:0] | enable",
+        own_cycle,
+        on,
+        [1, 0, 1, 1, 0, 1],
+        [5, 0, 4, 5, 4, 5],
+    );
+    tracked(
+        b"Q | 8, 1 to 4, [2:0] | enable",
+        late,
+        [1, 0, 1, 1, 1, 1],
+        once,
+        [1, 2, 6, 6, 3, 0],
+    );
+    tracked(
+        b"R | 8, 0 to 2, [2:0] | enable",
+        early,
+        on,
+        [1, 1, 1, 1, 0, 0],
+        [3, 3, 3, 2, 2, 2],
+    );
 }

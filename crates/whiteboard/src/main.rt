@@ -1,4 +1,4 @@
-// The whiteboard table: its twelve cases, each checked from its samples, and the examples below it.
+// The whiteboard table: its twelve cases, each checked from its samples, the examples below it, and six cases of kinds 7 and 8.
 mod below;
 mod cases;
 
@@ -9,4 +9,5 @@ fn main() {
     below::lists();
     below::sequence_recheck();
     below::window_recheck();
+    cases::after_triggers();
 }

@@ -1,27 +1,18 @@
--- `config::config::within_limits` meets its contract: each arm's limits are those of the kind's family. Assumes nothing.
-use native.Mathlib.Omega.{arith}
-use Rattle.rules.specs.Config.{limitsOf}
-use Rattle.rules.specs.Config.Family.{sequence, time, transition, none}
-use Rattle.rules.proofs.Good.{family-sequence, family-time, family-transition, family-none, limits-are}
+-- `config::config::within_limits` meets its contract: it asks for both. Assumes nothing.
+use Rattle.rules.specs.Config.{limits}
+use borrow.Author.Needs.{needs}
 use Rattle.config.proofs.config.within_limits.Statement.{statement}
 use Rattle.config.proofs.config.within_limits.Tie as tie
 
+n-fits-requires : tie.Need-n-fits-requires
+n-fits-requires c κs = search needs
+
+min-fits-requires : tie.Need-min-fits-requires
+min-fits-requires c κs = search needs
+
 returns : tie.Need-returns
-unfolding limitsOf
-returns c = let a = c .before .args .c in limits-are a transition (family-transition (a .kind) (c .match .keys1))
-
-returns-2 : tie.Need-returns-2
-unfolding limitsOf
-returns-2 c = let a = c .before .before .args .c in limits-are a sequence (family-sequence (a .kind) (c .if1 .taken))
-
-returns-3 : tie.Need-returns-3
-unfolding limitsOf
-returns-3 c =
-    let a = c .before .before .before .args .c in limits-are a time (family-time (a .kind) (c .before .if1 .left) (c .if2 .taken))
-
-returns-4 : tie.Need-returns-4
-unfolding limitsOf
-returns-4 c = let a = c .before .before .before .args .c in limits-are a none (family-none (a .kind) (omega arith))
+unfolding limits
+returns c = rw (c .before .n-fits .ensures, c .min-fits .ensures)
 
 pub within-limits-spec : {M : Type 1} → statement M
-within-limits-spec = tie.close (tie.spec returns returns-2 returns-3 returns-4)
+within-limits-spec = tie.close (tie.spec n-fits-requires min-fits-requires returns)

@@ -2,9 +2,10 @@
 use mathlib.Core.Path.{ap}
 use native.Mathlib.Omega.{arith}
 use lib.ListN.{length}
-use Rattle.rules.proofs.Good.{family-sequence, family-time, family-transition, kind-low}
+use Rattle.rules.specs.Step.{leftIn}
+use Rattle.rules.proofs.Good.{family-sequence, family-time, family-transition, family-value, family-stability, kind-low}
 use Rattle.entries.proofs.Stored.{stored-length}
-use Rattle.cycle_entries.proofs.StepEntries.{lost-young, attempts-are, window-start, window-is, stored-before, transition-is}
+use Rattle.cycle_entries.proofs.StepEntries.{lost-young, attempts-are, window-start, window-is, stored-before, transition-is, trigger-low, value-low, value-is, stability-low, stability-is}
 use Rattle.cycle_entries.proofs.kinds.write_entries.Statement.{statement}
 use Rattle.cycle_entries.proofs.kinds.write_entries.Tie as tie
 
@@ -25,6 +26,50 @@ write-entry-requires c κs =
     let h = stored-before (a .c) (a .word) (a .frame) (a .row) (a .t) (s .pre .0) fam (s .pre .1) in
     let e = transition-is (a .c) (a .word) (a .frame) (a .row) (a .t) (s .pre .0) fam (s .pre .1) in
     (s .pre .0 .low, omega (arith, h), omega (arith, s .pre .2, ap length e))
+
+-- ---- kinds 7 and 8
+
+cast-trigger-cycle : tie.Need-cast-trigger-cycle
+cast-trigger-cycle c = omega arith
+
+trigger-cycle-requires : tie.Need-trigger-cycle-requires
+trigger-cycle-requires c κs =
+    let s = c .before .before .before in
+    let a = s .args in
+    let fam = family-value (a .c .kind) (c .before .match .keys2) in
+    let h = value-low (a .c) (a .word) (a .frame) (a .row) (a .t) (s .pre .0) fam in
+    (s .pre .0 .low, h .0, omega (arith, h), h .2)
+
+write-entry-requires-2 : tie.Need-write-entry-requires-2
+write-entry-requires-2 c κs =
+    let s = c .before .before .before .before .before in
+    let a = s .args in
+    let fam = family-value (a .c .kind) (c .before .before .before .match .keys2) in
+    let h = value-low (a .c) (a .word) (a .frame) (a .row) (a .t) (s .pre .0) fam in
+    let e = value-is (a .c) (a .word) (a .frame) (a .row) (a .t) (s .pre .0) fam (s .pre .1) in
+    let start = c .before .trigger-cycle .ensures in
+    (s .pre .0 .low, rw start (trigger-low (a .c) (a .word) (a .frame) (a .row) (a .t) (s .pre .0) (a .word) (h .0) (h .2)), omega (arith, s .pre .2, ap length e))
+
+cast-trigger-cycle-2 : tie.Need-cast-trigger-cycle-2
+cast-trigger-cycle-2 c = omega arith
+
+trigger-cycle-requires-2 : tie.Need-trigger-cycle-requires-2
+trigger-cycle-requires-2 c κs =
+    let s = c .before .before .before in
+    let a = s .args in
+    let fam = family-stability (a .c .kind) (c .before .match .keys3) in
+    let h = stability-low (a .c) (a .word) (a .frame) (a .row) (a .t) (s .pre .0) fam in
+    (s .pre .0 .low, h .0, omega (arith, h), h .2)
+
+write-entry-requires-3 : tie.Need-write-entry-requires-3
+write-entry-requires-3 c κs =
+    let s = c .before .before .before .before .before in
+    let a = s .args in
+    let fam = family-stability (a .c .kind) (c .before .before .before .match .keys3) in
+    let h = stability-low (a .c) (a .word) (a .frame) (a .row) (a .t) (s .pre .0) fam in
+    let e = stability-is (a .c) (a .word) (a .frame) (a .row) (a .t) (s .pre .0) fam (s .pre .1) in
+    let start = c .before .trigger-cycle2 .ensures in
+    (s .pre .0 .low, rw start (trigger-low (a .c) (a .word) (a .frame) (a .row) (a .t) (s .pre .0) (leftIn (a .word)) (h .0) (h .2)), omega (arith, s .pre .2, ap length e))
 
 -- ---- kinds 0 to 2
 
@@ -95,10 +140,30 @@ returns c =
     (c .before .before .write-entry .ensures)
 
 same-length-2 : tie.Need-same-length-2
-same-length-2 c = stored-length (c .before .before .write-attempts .ensures)
+same-length-2 c = stored-length (c .before .before .write-entry2 .ensures)
 
 returns-2 : tie.Need-returns-2
 returns-2 c =
+    let s = c .before .before .before .before .before .before .before .before in
+    let a = s .args in
+    let fam = family-value (a .c .kind) (c .before .before .before .before .before .before .match .keys2) in
+    rw (value-is (a .c) (a .word) (a .frame) (a .row) (a .t) (s .pre .0) fam (s .pre .1), ← c .before .before .before .before .trigger-cycle .ensures) (c .before .before .write-entry2 .ensures)
+
+same-length-3 : tie.Need-same-length-3
+same-length-3 c = stored-length (c .before .before .write-entry3 .ensures)
+
+returns-3 : tie.Need-returns-3
+returns-3 c =
+    let s = c .before .before .before .before .before .before .before .before in
+    let a = s .args in
+    let fam = family-stability (a .c .kind) (c .before .before .before .before .before .before .match .keys3) in
+    rw (stability-is (a .c) (a .word) (a .frame) (a .row) (a .t) (s .pre .0) fam (s .pre .1), ← c .before .before .before .before .trigger-cycle2 .ensures) (c .before .before .write-entry3 .ensures)
+
+same-length-4 : tie.Need-same-length-4
+same-length-4 c = stored-length (c .before .before .write-attempts .ensures)
+
+returns-4 : tie.Need-returns-4
+returns-4 c =
     let s = c .before .before .before .before .before .before .before .before in
     let a = s .args in
     let fam = family-sequence (a .c .kind) (c .before .before .before .before .before .if1 .taken) in
@@ -108,11 +173,11 @@ returns-2 c =
     (s .pre .1))
     (c .before .before .write-attempts .ensures)
 
-same-length-3 : tie.Need-same-length-3
-same-length-3 c = stored-length (c .before .before .write-window .ensures)
+same-length-5 : tie.Need-same-length-5
+same-length-5 c = stored-length (c .before .before .write-window .ensures)
 
-returns-3 : tie.Need-returns-3
-returns-3 c =
+returns-5 : tie.Need-returns-5
+returns-5 c =
     let s = c .before .before .before .before .before .before .before .before .before in
     let a = s .args in
     let fam = family-time (a .c .kind) (c .before .before .before .before .before .before .if1 .left) (c .before .before .before .before .before .if2 .taken) in
@@ -121,8 +186,8 @@ returns-3 c =
     (c .before .before .write-window .ensures)
 
 -- no kind is left
-returns-4 : tie.Need-returns-4
-returns-4 c =
+returns-6 : tie.Need-returns-6
+returns-6 c =
     let s = c .before .before .before .before in
     absurd (omega (arith, kind-low (s .args .c) (s .pre .0 .good)))
 
@@ -132,6 +197,12 @@ write-entries-spec =
     (tie.spec
     sub-write-entry
     write-entry-requires
+    cast-trigger-cycle
+    trigger-cycle-requires
+    write-entry-requires-2
+    cast-trigger-cycle-2
+    trigger-cycle-requires-2
+    write-entry-requires-3
     lost-attempts-requires
     write-attempts-requires
     add-write-window
@@ -145,4 +216,8 @@ write-entries-spec =
     returns-2
     same-length-3
     returns-3
-    returns-4)
+    same-length-4
+    returns-4
+    same-length-5
+    returns-5
+    returns-6)

@@ -1,6 +1,6 @@
 -- `engine::family::fill` meets its contract: the families' loops do. Assumes nothing.
 use native.Mathlib.Omega.{arith}
-use Rattle.rules.proofs.Good.{family-sequence, family-time, family-transition, kind-low}
+use Rattle.rules.proofs.Good.{family-sequence, family-time, family-transition, family-value, family-stability, kind-low}
 use borrow.Author.Needs.{needs}
 use Rattle.engine.proofs.family.fill.Statement.{statement}
 use Rattle.engine.proofs.family.fill.Tie as tie
@@ -16,6 +16,14 @@ fill-descending-requires c κs =
 fill-transition-requires : tie.Need-fill-transition-requires
 fill-transition-requires c κs =
     let s = c .before .before .before .before .before .before .before .before in (s .pre .0, family-transition (s .args .c .kind) (c .before .before .before .before .match .keys1), s .pre .1)
+
+fill-value-requires : tie.Need-fill-value-requires
+fill-value-requires c κs =
+    let s = c .before .before .before .before .before .before in (s .pre .0, family-value (s .args .c .kind) (c .before .before .match .keys2), s .pre .1)
+
+fill-stability-requires : tie.Need-fill-stability-requires
+fill-stability-requires c κs =
+    let s = c .before .before .before .before .before .before in (s .pre .0, family-stability (s .args .c .kind) (c .before .before .match .keys3), s .pre .1)
 
 fill-sequence-requires : tie.Need-fill-sequence-requires
 fill-sequence-requires c κs =
@@ -65,8 +73,26 @@ same-length-8 c = search needs
 returns-4 : tie.Need-returns-4
 returns-4 c = search needs
 
+same-length-9 : tie.Need-same-length-9
+same-length-9 c = search needs
+
+same-length-10 : tie.Need-same-length-10
+same-length-10 c = search needs
+
 returns-5 : tie.Need-returns-5
-returns-5 c = let s = c .before .before .before .before .before .before .before in absurd (omega (arith, kind-low (s .args .c) (s .pre .0 .good)))
+returns-5 c = search needs
+
+same-length-11 : tie.Need-same-length-11
+same-length-11 c = search needs
+
+same-length-12 : tie.Need-same-length-12
+same-length-12 c = search needs
+
+returns-6 : tie.Need-returns-6
+returns-6 c = search needs
+
+returns-7 : tie.Need-returns-7
+returns-7 c = let s = c .before .before .before .before .before .before .before in absurd (omega (arith, kind-low (s .args .c) (s .pre .0 .good)))
 
 pub fill-spec : {M : Type 1} → statement M
 fill-spec =
@@ -75,6 +101,8 @@ fill-spec =
     all-descend-requires
     fill-descending-requires
     fill-transition-requires
+    fill-value-requires
+    fill-stability-requires
     fill-sequence-requires
     fill-time-requires
     nowhere-requires
@@ -90,4 +118,10 @@ fill-spec =
     same-length-7
     same-length-8
     returns-4
-    returns-5)
+    same-length-9
+    same-length-10
+    returns-5
+    same-length-11
+    same-length-12
+    returns-6
+    returns-7)

@@ -17,6 +17,9 @@ time-cycle-requires : tie.Need-time-cycle-requires
 time-cycle-requires c κs =
     let at = c .before .before .before in (at .pre .0, family-time (at .args .c .kind) (c .before .if1 .left) (c .if2 .taken), at .pre .1)
 
+after-trigger-requires : tie.Need-after-trigger-requires
+after-trigger-requires c κs = search needs
+
 returns : tie.Need-returns
 returns c = search needs
 
@@ -27,7 +30,10 @@ returns-3 : tie.Need-returns-3
 returns-3 c = search needs
 
 returns-4 : tie.Need-returns-4
-returns-4 c = let at = c .before .before .before in absurd (omega (arith, kind-low (at .args .c) (at .pre .0)))
+returns-4 c = search needs
+
+returns-5 : tie.Need-returns-5
+returns-5 c = let at = c .before .before .before .before in absurd (omega (arith, kind-low (at .args .c) (at .pre .0)))
 
 pub step-spec : {M : Type 1} → statement M
 step-spec =
@@ -36,7 +42,9 @@ step-spec =
     transition-cycle-requires
     sequence-cycle-requires
     time-cycle-requires
+    after-trigger-requires
     returns
     returns-2
     returns-3
-    returns-4)
+    returns-4
+    returns-5)

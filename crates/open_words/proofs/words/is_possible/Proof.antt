@@ -31,6 +31,9 @@ low-ones-requires c κs =
 cast-result : tie.Need-cast-result
 cast-result c = search needs
 
+is-window-requires : tie.Need-is-window-requires
+is-window-requires c κs = search needs
+
 returns : tie.Need-returns
 unfolding possibleOf
 returns c =
@@ -52,9 +55,12 @@ returns-3 c =
     possible-are (a .c) (a .word) time (family-time (a .c .kind) (c .before .if1 .left) (c .if2 .taken))
 
 returns-4 : tie.Need-returns-4
+returns-4 c = search needs
+
+returns-5 : tie.Need-returns-5
 unfolding possibleOf
-returns-4 c =
-    let a = c .before .before .before .before .args in possible-are (a .c) (a .word) none (family-none (a .c .kind) (omega arith))
+returns-5 c =
+    let a = c .before .before .before .before .before .args in possible-are (a .c) (a .word) none (family-none (a .c .kind) (omega arith))
 
 pub is-possible-spec : {M : Type 1} → statement M
 is-possible-spec =
@@ -65,7 +71,9 @@ is-possible-spec =
     sub-low-ones
     low-ones-requires
     cast-result
+    is-window-requires
     returns
     returns-2
     returns-3
-    returns-4)
+    returns-4
+    returns-5)

@@ -1,0 +1,2 @@
+-- What the step of kind 7 goes by.
+pub mod Expects

@@ -1,0 +1,45 @@
+// Runs of kind 7 that do not stop.
+use rules::Config;
+use trace::Reached;
+use trace::Stretch;
+use trace::frame_at;
+use trace::kept_at_end;
+use trigger::expected_wires;
+use trigger::value_cycle;
+ghost use mathlib.Core.Bool.{false};
+ghost use mathlib.Core.Path.{_≡_};
+ghost use Rattle.rules.specs.Config.{family};
+ghost use Rattle.rules.specs.Config.Family.{value};
+ghost use Rattle.trace.specs.Stretches.{Runnable, Ran};
+
+// Runs a stretch to its end.
+pub fn fill_value(
+    c: Config,
+    trace: &[u32],
+    rows: &mut [u32],
+    words: &mut [u64],
+    s: Stretch,
+) -> Reached
+    requires { ⌜ (Runnable c (now trace) (now rows) (now words) s) × (family (c .kind) ≡ value) × (s .stops ≡ false) ⌝ }
+    ensures { λ r. ⌜ Ran c (now (trace .entry)) (now (rows .entry)) (now (words .entry)) s (now (rows .exit)) (now (words .exit)) r ⌝ }
+{
+    let e = expected_wires(c);
+    let from = s.from;
+    let to = s.to;
+    let mut at = s.at;
+    let mut word = s.word;
+    let kept = s.kept;
+    let last = kept_at_end(words, at, to, kept);
+    while at < to {
+        let next = value_cycle(c, e, word, frame_at(trace, from + at));
+        word = next.word;
+        rows[at] = next.row;
+        words[at] = word;
+        at += 1;
+    }
+    Reached {
+        at,
+        word,
+        kept: last,
+    }
+}

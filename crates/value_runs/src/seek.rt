@@ -1,0 +1,43 @@
+// Runs of kind 7 that stop where they meet the kept words.
+use rules::Config;
+use trace::Reached;
+use trace::Stretch;
+use trace::frame_at;
+use trigger::expected_wires;
+use trigger::value_cycle;
+ghost use mathlib.Core.Bool.{true};
+ghost use mathlib.Core.Path.{_≡_};
+ghost use Rattle.rules.specs.Config.{family};
+ghost use Rattle.rules.specs.Config.Family.{value};
+ghost use Rattle.trace.specs.Stretches.{Runnable, Ran};
+
+// Runs a stretch up to the first entry where the word is the kept one. The kept word of an entry is read before it is written.
+pub fn seek_value(
+    c: Config,
+    trace: &[u32],
+    rows: &mut [u32],
+    words: &mut [u64],
+    s: Stretch,
+) -> Reached
+    requires { ⌜ (Runnable c (now trace) (now rows) (now words) s) × (family (c .kind) ≡ value) × (s .stops ≡ true) ⌝ }
+    ensures { λ r. ⌜ Ran c (now (trace .entry)) (now (rows .entry)) (now (words .entry)) s (now (rows .exit)) (now (words .exit)) r ⌝ }
+{
+    let e = expected_wires(c);
+    let from = s.from;
+    let to = s.to;
+    let mut at = s.at;
+    let mut word = s.word;
+    let mut kept = s.kept;
+    while at < to {
+        if word == kept {
+            return Reached { at, word, kept };
+        }
+        let next = value_cycle(c, e, word, frame_at(trace, from + at));
+        kept = words[at];
+        word = next.word;
+        rows[at] = next.row;
+        words[at] = word;
+        at += 1;
+    }
+    Reached { at, word, kept }
+}

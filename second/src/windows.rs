@@ -1,0 +1,201 @@
+//! The situations of kinds 7 and 8 (§4 of document 02) that every run has to meet: those of a window, of an open word and of
+//! a configuration.
+
+use crate::rules::{self, Config};
+use crate::tally::Tally;
+
+/// A window of a checked trace: from its accepted trigger s to s+max, or to where a reset or the end of the trace cuts it.
+pub struct Window<'a> {
+    config: Config,
+    trace: &'a [u32],
+    rows: &'a [u32],
+    s: usize,
+    /// The first cycle behind it.
+    end: usize,
+}
+
+pub struct Situation {
+    pub kinds: &'static [u8],
+    pub name: &'static str,
+    is_met: fn(&Window) -> bool,
+}
+
+const fn both(name: &'static str, is_met: fn(&Window) -> bool) -> Situation {
+    Situation { kinds: &[7, 8], name, is_met }
+}
+
+const fn value(name: &'static str, is_met: fn(&Window) -> bool) -> Situation {
+    Situation { kinds: &[7], name, is_met }
+}
+
+const fn stability(name: &'static str, is_met: fn(&Window) -> bool) -> Situation {
+    Situation { kinds: &[8], name, is_met }
+}
+
+pub const SITUATIONS: [Situation; 24] = [
+    both("opened and closed in one cycle, max 0", |w| w.max() == 0),
+    both("closed, min 0, max above 0", |w| w.is_closed() && w.min() == 0 && w.max() > 0),
+    both("closed, min = max above 0", |w| w.is_closed() && w.min() == w.max() && w.max() > 0),
+    both("closed after 1,024 cycles", |w| w.is_closed() && w.max() == 1024),
+    both("closed with enable 0", |w| w.is_closed() && !w.enable(w.end - 1)),
+    both("ended by a reset", |w| w.is_reset()),
+    both("ended by a reset with enable 0", |w| w.is_reset() && !w.enable(w.end)),
+    both("trigger ignored before s+min", |w| (w.s + 1..w.end.min(w.s + w.min())).any(|t| w.trigger(t))),
+    both("trigger ignored in s+max", |w| w.is_closed() && w.max() > 0 && w.trigger(w.end - 1)),
+    both("trigger accepted in s+max+1", |w| w.is_closed() && w.max() > 0 && w.opens(w.end)),
+    both("trigger with enable 0 not seen in s+max+1", |w| w.is_closed() && w.trigger_is_disabled(w.end)),
+    both("trigger accepted in s+1 to s+max after a reset", |w| (w.end..=w.s + w.max()).any(|t| w.opens(t))),
+    both("several cycles tested, none failed", |w| w.is_closed() && w.tested().count() > 1 && !w.has_failed()),
+    both("failed twice", |w| w.tested().filter(|&t| w.fails(t)).count() > 1),
+    both("failed in s+max", |w| w.is_closed() && w.max() > 0 && w.fails(w.end - 1)),
+    both("passed after a failure", |w| w.tested().skip_while(|&t| !w.fails(t)).any(|t| !w.fails(t))),
+    both("wrong before s+min, none failed", |w| (w.s..w.end.min(w.s + w.min())).any(|t| w.is_wrong(t)) && !w.has_failed()),
+    both("wrong with enable 0, none failed", |w| w.disabled().any(|t| w.is_wrong(t)) && !w.has_failed()),
+    value("failed in its trigger cycle, max above 0", |w| w.rows[w.s] == 5),
+    value("failed in its trigger cycle, max 0", |w| w.rows[w.s] == 13),
+    stability("failed, reference of s", |w| w.min() == 0 && w.has_failed()),
+    stability("reference later than s+min", |w| w.enabled().next().is_some_and(|t| t > w.s + w.min())),
+    stability("closed without a reference", |w| w.is_closed() && w.enabled().next().is_none()),
+    stability("reference with its 32nd bit 1", |w| w.due().is_some_and(|r| r >> 31 == 1)),
+];
+
+impl Window<'_> {
+    fn min(&self) -> usize {
+        self.config.min as usize
+    }
+
+    fn max(&self) -> usize {
+        self.config.n as usize
+    }
+
+    fn enable(&self, t: usize) -> bool {
+        self.trace[4 * t] & 2 != 0
+    }
+
+    fn q(&self, t: usize) -> bool {
+        self.config.q.value(self.trace[4 * t + 2]) == 1
+    }
+
+    fn trigger(&self, t: usize) -> bool {
+        self.enable(t) && self.q(t)
+    }
+
+    fn trigger_is_disabled(&self, t: usize) -> bool {
+        t < self.rows.len() && self.trace[4 * t] & 3 == 1 && self.q(t)
+    }
+
+    fn opens(&self, t: usize) -> bool {
+        self.rows.get(t).is_some_and(|row| row & 4 != 0)
+    }
+
+    fn fails(&self, t: usize) -> bool {
+        self.rows[t] & 1 != 0
+    }
+
+    fn has_failed(&self) -> bool {
+        (self.s..self.end).any(|t| self.fails(t))
+    }
+
+    fn is_closed(&self) -> bool {
+        self.rows[self.end - 1] & 8 != 0
+    }
+
+    fn is_reset(&self) -> bool {
+        !self.is_closed() && self.end < self.rows.len()
+    }
+
+    /// The cycles from s+min on where enable is 1.
+    fn enabled(&self) -> impl Iterator<Item = usize> + '_ {
+        (self.s + self.min()..self.end).filter(|&t| self.enable(t))
+    }
+
+    fn disabled(&self) -> impl Iterator<Item = usize> + '_ {
+        (self.s + self.min()..self.end).filter(|&t| !self.enable(t))
+    }
+
+    /// The cycles that can fail: the stability check only takes its reference in the first.
+    fn tested(&self) -> impl Iterator<Item = usize> + '_ {
+        self.enabled().skip(usize::from(self.config.kind == 8))
+    }
+
+    /// What P is compared with.
+    fn due(&self) -> Option<u32> {
+        if self.config.kind == 7 {
+            return Some(self.config.value);
+        }
+        self.enabled().next().map(|t| self.config.p.value(self.trace[4 * t + 1]))
+    }
+
+    fn is_wrong(&self, t: usize) -> bool {
+        self.due().is_some_and(|due| due != self.config.p.value(self.trace[4 * t + 1]))
+    }
+}
+
+fn windows<'a>(config: Config, trace: &'a [u32], rows: &'a [u32]) -> Vec<Window<'a>> {
+    let mut windows = Vec::new();
+    for s in (0..rows.len()).filter(|&s| rows[s] & 4 != 0) {
+        let last = rows.len().min(s + config.n as usize + 1);
+        let end = (s + 1..last).find(|&t| trace[4 * t] & 1 == 0).unwrap_or(last);
+        windows.push(Window { config, trace, rows, s, end });
+    }
+    windows
+}
+
+/// The windows of a checked trace; the rows are those of the rules.
+pub fn tally_windows(tally: &mut Tally, config: Config, trace: &[u32], rows: &[u32]) {
+    if !config.is_after_trigger() {
+        return;
+    }
+    let windows = windows(config, trace, rows);
+    for situation in SITUATIONS.iter().filter(|situation| situation.kinds.contains(&config.kind)) {
+        tally.window(config.kind, situation.name, windows.iter().any(situation.is_met));
+    }
+}
+
+/// The word of a step, of an open count or before a recheck, at the limits of the possible words and just beyond them.
+pub fn tally_word(tally: &mut Tally, config: Config, word: u64) {
+    let (min, max) = (u64::from(config.min), u64::from(config.n));
+    match (config.kind, rules::reference_in(word)) {
+        (7, _) => {
+            tally.situation("value word, max left", word == max && max > 0);
+            tally.situation("value word refused, max+1 left", word == max + 1);
+        }
+        (8, None) => {
+            tally.situation("stability word without a reference, max left", word == max && min > 0);
+            tally.situation("stability word without a reference refused, min 0", (1..=max).contains(&word) && min == 0);
+            tally.situation("stability word without a reference refused, max+1 left", word == max + 1 && min > 0);
+        }
+        (8, Some(r)) => {
+            let (left, above) = (rules::cycles_left_in(word), 1 << config.p.width());
+            let (reference_fits, left_fits) = (r < above, (1..=max - min).contains(&left));
+            tally.situation("stability word, max-min left", reference_fits && left_fits && left == max - min);
+            tally.situation("stability word, greatest reference of 32 wires", left_fits && r == u64::from(u32::MAX));
+            tally.situation("stability word refused, 0 left", reference_fits && left == 0);
+            tally.situation("stability word refused, max-min+1 left", reference_fits && left == max - min + 1);
+            tally.situation("stability word refused, reference one too large", left_fits && r == above);
+        }
+        _ => {}
+    }
+}
+
+/// A configuration that is refused for one number alone: with another it is right.
+pub fn tally_config(tally: &mut Tally, config: Config) {
+    let after_trigger = config.is_after_trigger();
+    let only = |other: Config| config.refusal() != 0 && other.refusal() == 0;
+    let min = only(Config { min: 0, ..config });
+    tally.situation("kind 9 refused", config.kind == 9);
+    tally.situation("min refused, one above max", min && after_trigger && config.min == config.n + 1);
+    tally.situation("min refused, kinds 0 to 6", min && !after_trigger);
+    let max = only(Config { n: 1024, ..config });
+    tally.situation("max refused, 1,025", max && after_trigger && config.n == 1025);
+    let value = only(Config { value: 0, ..config });
+    tally.situation("value refused, kinds 0 to 6", value && !after_trigger);
+    tally.situation("value refused, kind 8", value && config.kind == 8);
+    let one_too_large = config.kind == 7 && value && u64::from(config.value) == 1 << config.p.width();
+    tally.situation("value refused, kind 7, one too large", one_too_large);
+    tally.situation("value accepted, 2^32-1", config.kind == 7 && config.refusal() == 0 && config.value == u32::MAX);
+    let wire = rules::Range { left: 0, right: 0 };
+    let q = only(Config { q: wire, ..config });
+    tally.situation("width of Q refused, kinds 7 and 8", q && after_trigger && config.q.width() == 2);
+    tally.situation("R refused, kinds 7 and 8", after_trigger && only(Config { r: wire, ..config }));
+}
