@@ -1,13 +1,13 @@
 // The family of a kind decides which step there is. It is not offered to the viewer.
 use cycle::Outcome;
+use expected::expected_wires;
 use rules::Config;
 use rules::Frame;
 use sequence::sequence_cycle;
+use stability::stability_cycle;
 use time::time_cycle;
 use transition::transition_cycle;
-use trigger::expected_wires;
-use trigger::stability_cycle;
-use trigger::value_cycle;
+use value::value_cycle;
 ghost use Prim.Native.Nat.{_<_};
 ghost use lib.Dec.{T};
 ghost use Rattle.rules.specs.Config.{Good};

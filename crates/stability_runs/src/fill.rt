@@ -1,10 +1,10 @@
 // Runs of kind 8 that do not stop.
 use rules::Config;
+use stability::stability_cycle;
 use trace::Reached;
 use trace::Stretch;
 use trace::frame_at;
 use trace::kept_at_end;
-use trigger::stability_cycle;
 ghost use mathlib.Core.Bool.{false};
 ghost use mathlib.Core.Path.{_≡_};
 ghost use Rattle.rules.specs.Config.{family};

@@ -1,9 +1,9 @@
 // Runs of kind 8 that stop where they meet the kept words.
 use rules::Config;
+use stability::stability_cycle;
 use trace::Reached;
 use trace::Stretch;
 use trace::frame_at;
-use trigger::stability_cycle;
 ghost use mathlib.Core.Bool.{true};
 ghost use mathlib.Core.Path.{_≡_};
 ghost use Rattle.rules.specs.Config.{family};

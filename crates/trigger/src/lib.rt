@@ -1,10 +1,5 @@
-// Kinds 7 and 8, the checks after a trigger: one step of each.
-mod expected;
-mod stability;
-mod value;
+// Kinds 7 and 8, the checks after a trigger: what their windows have in common.
 mod window;
 
-pub use expected::Expected;
-pub use expected::expected_wires;
-pub use stability::stability_cycle;
-pub use value::value_cycle;
+pub use window::is_tested;
+pub use window::sees_trigger;

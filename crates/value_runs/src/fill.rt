@@ -1,11 +1,11 @@
 // Runs of kind 7 that do not stop.
+use expected::expected_wires;
 use rules::Config;
 use trace::Reached;
 use trace::Stretch;
 use trace::frame_at;
 use trace::kept_at_end;
-use trigger::expected_wires;
-use trigger::value_cycle;
+use value::value_cycle;
 ghost use mathlib.Core.Bool.{false};
 ghost use mathlib.Core.Path.{_≡_};
 ghost use Rattle.rules.specs.Config.{family};

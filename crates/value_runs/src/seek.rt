@@ -1,10 +1,10 @@
 // Runs of kind 7 that stop where they meet the kept words.
+use expected::expected_wires;
 use rules::Config;
 use trace::Reached;
 use trace::Stretch;
 use trace::frame_at;
-use trigger::expected_wires;
-use trigger::value_cycle;
+use value::value_cycle;
 ghost use mathlib.Core.Bool.{true};
 ghost use mathlib.Core.Path.{_≡_};
 ghost use Rattle.rules.specs.Config.{family};

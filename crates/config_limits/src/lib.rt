@@ -1,0 +1,4 @@
+// The limits of a configuration's numbers.
+mod limits;
+
+pub use limits::within_limits;

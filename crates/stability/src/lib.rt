@@ -1,0 +1,4 @@
+// Kind 8, stability after a trigger: one step.
+mod step;
+
+pub use step::stability_cycle;
