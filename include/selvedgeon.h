@@ -12,12 +12,12 @@
  *     0  sequence, most-pipe        2..32      n events   unused       unused
  *     1  sequence, first-pipe       2..32      n events   unused       unused
  *     2  sequence, first-no-pipe    2..32      n events   unused       unused
- *     3  time, ignore new start     1..1024    start      test         unused
- *     4  time, reset on new start   1..1024    start      test         unused
- *     5  time, error on new start   1..1024    start      test         unused
+ *     3  time, ignore new start     1..65535   start      test         unused
+ *     4  time, reset on new start   1..65535   start      test         unused
+ *     5  time, error on new start   1..65535   start      test         unused
  *     6  transition                 0          test       start state  next state
- *     7  value after a trigger      0..1024    value      trigger      unused
- *     8  stability after a trigger  0..1024    value      trigger      unused
+ *     7  value after a trigger      0..65535   value      trigger      unused
+ *     8  stability after a trigger  0..65535   value      trigger      unused
  *
  * A port that is not used is declared 0:0, and a number that is not used is 0: min for kinds 0 to 6, the expected value for
  * all kinds but 7.

@@ -119,7 +119,7 @@ static void refusals(void)
     b.table[33].min = 1; /* kind 6 */
     memcpy(&before, &b, sizeof b);
     expect_refused("min of checker 33", &b, run(&b, 64), 2, 33, &before);
-    b.table[31].n = 1025;
+    b.table[31].n = 65536;
     memcpy(&before, &b, sizeof b);
     expect_refused("n of checker 31", &b, run(&b, 64), 2, 31, &before);
     b.table[0].p.left = 32;

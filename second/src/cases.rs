@@ -1,23 +1,29 @@
 //! One random case of each call: the input is drawn, handed to the library and to the rules, and everything that either of
 //! them answered or left in a buffer is compared.
 
-use crate::generate::{self, Random};
+use crate::generate::{self, Failing, Random};
 use crate::host;
-use crate::rules::{self, Config, Edit, Record, MOST_CYCLES};
+use crate::rules::{self, Config, Edit, Record, LONGEST_WINDOW, MOST_CYCLES};
 use crate::tally::{Call, Tally, NO_KIND};
 use crate::windows;
 use std::fmt::Debug;
 
 type Outcome = Result<(), String>;
 
-/// The greatest trace, the one that is just too long, and the greatest with a word more come up on a fixed schedule.
+/// The greatest trace, the one that is just too long, the greatest with a word more, and the greatest with a window of the
+/// greatest length come up on a fixed schedule. The last are numbered: the kinds take turns, and then whether the last cycle
+/// of the window fails.
 #[derive(Clone, Copy, PartialEq, Debug)]
 pub enum Size {
     Any,
+    Longest(u64),
     Greatest,
     TooLong,
     WordMore,
 }
+
+/// From this length on a window gets traces that are made for it: in others it would hardly ever close.
+const LONG_WINDOW: u32 = 300;
 
 pub struct Case<'a> {
     pub random: Random,
@@ -49,7 +55,9 @@ impl Case<'_> {
     }
 
     fn config(&mut self) -> Config {
-        let config = if self.fault(200) {
+        let config = if let Size::Longest(number) = self.size {
+            generate::longest_config(&mut self.random, windows::KINDS[number as usize % windows::KINDS.len()])
+        } else if self.fault(200) {
             generate::damaged_config(&mut self.random)
         } else {
             generate::good_config(&mut self.random)
@@ -59,13 +67,26 @@ impl Case<'_> {
         config
     }
 
+    /// For a call that takes a word and no trace. That is quick, so a longest window can come up more often.
+    fn config_for_word(&mut self) -> Config {
+        if !self.random.chance(100) {
+            return self.config();
+        }
+        let kind = self.random.pick(&windows::KINDS);
+        let config = generate::longest_config(&mut self.random, kind);
+        windows::tally_config(self.tally, config);
+        config
+    }
+
     fn cycles(&mut self, n: u32) -> usize {
         if self.size != Size::Any {
             return if self.size == Size::TooLong { MOST_CYCLES + 1 } else { MOST_CYCLES };
         }
-        if (300..=1024).contains(&n) && self.random.chance(if n == 1024 { 512 } else { 256 }) {
-            // Long enough that the longest window closes.
-            return 1000 + self.random.below(3000);
+        let long_enough = if n < 2000 { 300 } else { 90 };
+        if (LONG_WINDOW..=LONGEST_WINDOW).contains(&n) && self.random.chance(long_enough) {
+            // So long that the window closes: once and hardly more, or perhaps twice.
+            let (few, many) = (self.random.below(20), self.random.below(2 * n as usize));
+            return MOST_CYCLES.min(n as usize + 1 + self.random.pick(&[few, few, many]));
         }
         match self.random.below(1024) {
             0..=39 => 0,
@@ -73,6 +94,21 @@ impl Case<'_> {
             90..=599 => 2 + self.random.below(40),
             600..=1015 => 40 + self.random.below(260),
             _ => 1000 + self.random.below(4000),
+        }
+    }
+
+    /// A trace of so many cycles; where a long window fits in, most often one made for it.
+    fn trace(&mut self, config: Config, cycles: usize) -> Vec<u32> {
+        let random = &mut self.random;
+        let is_longer = config.has_window() && config.n >= LONG_WINDOW && cycles > config.n as usize;
+        if let Size::Longest(number) = self.size {
+            let fails = number as usize / windows::KINDS.len() % 2 == 1;
+            let failing = if fails { random.pick(&[Failing::Last, Failing::All]) } else { Failing::NotLast };
+            generate::window_trace(random, config, cycles, 0, failing)
+        } else if config.refusal() == 0 && is_longer && random.chance(768) {
+            generate::long_trace(random, config, cycles)
+        } else {
+            generate::trace(random, config, cycles)
         }
     }
 
@@ -99,12 +135,12 @@ impl Case<'_> {
 }
 
 pub fn step(case: &mut Case) -> Outcome {
-    let config = case.config();
+    let config = case.config_for_word();
     let trace = generate::trace(&mut case.random, config, 1);
     let frame = [trace[0], trace[1], trace[2], trace[3]];
     let mut word = case.random.next();
     if config.refusal() == 0 {
-        word = any_word(&mut case.random, config, 100);
+        word = any_word(&mut case.random, config, 150);
         if case.random.chance(512) {
             word = generate::passing_word(config, frame, word);
         }
@@ -171,7 +207,7 @@ fn any_word(random: &mut Random, config: Config, impossible: usize) -> u64 {
 pub fn check(case: &mut Case) -> Outcome {
     let config = case.config();
     let cycles = case.cycles(config.n);
-    let mut trace = generate::trace(&mut case.random, config, cycles);
+    let mut trace = case.trace(config, cycles);
     case.cut_trace(&mut trace);
     let (rows_len, words_len) = (case.length(cycles), case.length(cycles));
     let (mut rows, mut words) = (case.random.words(rows_len), case.random.long_words(words_len));
@@ -192,22 +228,25 @@ pub fn check(case: &mut Case) -> Outcome {
         tally.situation("check of 0 cycles", cycles == 0);
         tally.situation("check of 1 cycle", cycles == 1);
         tally.situation("check of 65,536 cycles", cycles == MOST_CYCLES);
-        let is_longest = config.is_time() && config.n == 1024;
-        tally.situation("window of 1,024 cycles closed", is_longest && rules::count(&rows, 8) > 0);
         tally.situation("window restarted, row 20", rows.contains(&20));
         let in_last_cycle = words.iter().zip(rows.iter().skip(1)).any(|pair| pair == (&1, &20));
         tally.situation("window restarted in its last cycle, n above 1", config.n > 1 && in_last_cycle);
         let twice_running = rows.windows(2).any(|pair| pair == [20, 20]);
         tally.situation("window restarted twice running, n = 1", config.n == 1 && twice_running);
         windows::tally_windows(tally, config, &trace, &rows);
+        windows::tally_longest(tally, config, &rows);
     }
     tally.situation("check refused 65,537 cycles", due == 4 && case.size == Size::TooLong);
     tally.situation("trace of 65,536 cycles and one word more", due == 4 && case.size == Size::WordMore);
     Ok(())
 }
 
-/// The cycles a to b−1 of an edit; sometimes a is above b, or b above N, also by more than 32 bits.
+/// The cycles a to b−1 of an edit; sometimes a is above b, or b above N, also by more than 32 bits. That of a longest window
+/// is in cycle 0, so that the recheck has the whole window to go.
 fn edit_range(case: &mut Case, cycles: usize) -> (u64, u64) {
+    if let Size::Longest(_) = case.size {
+        return (0, 1);
+    }
     let fault = case.fault(60);
     let random = &mut case.random;
     let last = cycles as u64;
@@ -274,13 +313,16 @@ impl Lent {
 pub fn recheck(case: &mut Case) -> Outcome {
     let config = case.config();
     let cycles = case.cycles(config.n);
-    let old = generate::trace(&mut case.random, config, cycles);
+    let old = case.trace(config, cycles);
     let (a, b) = edit_range(case, cycles);
     let mut trace = old.clone();
-    if config.refusal() == 0 && a <= b && b <= cycles as u64 {
+    let in_cycle_0 = matches!(case.size, Size::Longest(_));
+    if in_cycle_0 {
+        trace = generate::edited_in_cycle_0(&mut case.random, config, &old);
+    } else if config.refusal() == 0 && a <= b && b <= cycles as u64 {
         trace = generate::edited(&mut case.random, config, &old, a as usize, b as usize);
     }
-    let is_true = config.refusal() == 0 && case.random.chance(640);
+    let is_true = in_cycle_0 || config.refusal() == 0 && case.random.chance(640);
     let kept = if is_true {
         rules::true_record(config, &old)
     } else if config.refusal() == 0 {
@@ -313,23 +355,35 @@ fn compare_recheck(case: &mut Case, edit: &Edit, lent: Lent, is_true: bool) -> O
     if is_true && refusal == 0 {
         true_record_claims(edit, &lent, &due).map_err(context)?;
     }
+    if refusal == 0 && lent.rows.len() <= 300 && edit.config.n <= 2000 {
+        step_claims(edit, &lent, &due).map_err(context)?;
+    }
     tally_recheck(case.tally, edit, &lent, &due, refusal, is_true);
     tally_window_recheck(case.tally, edit, &lent.words, &due.answer, refusal, is_true);
     Ok(())
 }
 
-/// What the document says of true records besides: the latest e, and that a recheck one step for each cycle gives the same.
+/// What the document says of true records besides: the latest e, and that a recheck from the kept word gives the same.
 fn true_record_claims(edit: &Edit, lent: &Lent, due: &Lent) -> Outcome {
     let e = due.answer[0] as u64;
     if edit.latest_end().is_some_and(|latest| e > latest) {
         return Err(format!("e is {e}, above {:?}", edit.latest_end()));
     }
+    let mut other = lent.clone();
+    let refusal = edit.recheck_any(&mut other.rows, &mut other.words, &mut other.answer);
+    is_no_other(refusal, &other, due)
+}
+
+/// A recheck by single steps gives the same, of a true record or not.
+fn step_claims(edit: &Edit, lent: &Lent, due: &Lent) -> Outcome {
     let mut stepped = lent.clone();
-    if lent.rows.len() <= 300 {
-        let refusal = edit.recheck_any(&mut stepped.rows, &mut stepped.words, &mut stepped.answer);
-        if refusal != 0 || stepped.same_as(due).is_err() {
-            return Err(format!("the rules' own rechecks differ: e and changes {:?} and {:?}", stepped.answer, due.answer));
-        }
+    let refusal = edit.recheck_by_steps(&mut stepped.rows, &mut stepped.words, &mut stepped.answer);
+    is_no_other(refusal, &stepped, due)
+}
+
+fn is_no_other(refusal: u32, other: &Lent, due: &Lent) -> Outcome {
+    if refusal != 0 || other.same_as(due).is_err() {
+        return Err(format!("the rules' own rechecks differ: e and changes {:?} and {:?}", other.answer, due.answer));
     }
     Ok(())
 }
@@ -358,6 +412,10 @@ fn tally_recheck(tally: &mut Tally, edit: &Edit, lent: &Lent, due: &Lent, refusa
         tally.situation("recheck, true record, e = N above b", ends[2]);
         let unlimited = matches!(kind, 2 | 3 | 5) && e > edit.b + u64::from(edit.config.n);
         tally.situation("recheck, true record, e above b + n, kinds 2, 3, 5", unlimited);
+        if edit.config.has_window() {
+            let in_cycle_0 = a == 0 && b == 1;
+            tally.window(kind, windows::LONGEST_RECHECK, in_cycle_0 && e == last && last == MOST_CYCLES as u64);
+        }
     } else {
         tally.situation("recheck, false record, e = b", ends[0]);
         tally.situation("recheck, false record, e between b and N", ends[1]);
@@ -405,15 +463,31 @@ pub fn totals(case: &mut Case) -> Outcome {
     Ok(())
 }
 
+/// How long a list is lent where so many words are needed. With a longest window it is most often long enough: a list as
+/// long as that is what such a case is for.
+fn list_length(case: &mut Case, needed: usize) -> usize {
+    let more = needed + 1 + case.random.below(40);
+    if let Size::Longest(number) = case.size {
+        let is_short = number as usize / windows::KINDS.len() % 3 == 2;
+        return if is_short { needed - 1 } else { case.random.pick(&[needed, more]) };
+    }
+    case.random.pick(&[needed, needed, more, more, needed.saturating_sub(1), needed.saturating_sub(3), 0])
+}
+
 pub fn failures(case: &mut Case) -> Outcome {
-    let config = case.config();
+    let mut config = case.config();
     let cycles = case.cycles(config.n);
-    let mut trace = generate::trace(&mut case.random, config, cycles);
+    let mut trace = if let Size::Longest(_) = case.size {
+        // All cycles of the window tested and failed, so that the list is as long as one window makes it.
+        config.min = 0;
+        generate::window_trace(&mut case.random, config, cycles, 0, Failing::All)
+    } else {
+        case.trace(config, cycles)
+    };
     case.cut_trace(&mut trace);
     let refused = config.refusal() != 0 || trace.len() % 4 != 0 || cycles > MOST_CYCLES;
     let needed = if refused { 0 } else { 3 * rules::entries(config, &trace).len() };
-    let more = needed + 1 + case.random.below(40);
-    let list_len = case.random.pick(&[needed, needed, more, more, needed.saturating_sub(1), needed.saturating_sub(3), 0]);
+    let list_len = list_length(case, needed);
     let mut list = case.random.words(list_len);
     let mut expected = list.clone();
 
@@ -425,13 +499,8 @@ pub fn failures(case: &mut Case) -> Outcome {
     let refusal = (due >> 32) as u32;
     case.tally.case(Call::Failures, Some(config.kind), refusal);
     if refusal == 0 {
-        let marks: Vec<u32> = list[..needed].chunks_exact(3).map(|entry| entry[1]).collect();
-        case.tally.rows(Call::Failures, config.kind, &marks);
         case.tally.situation("failures of 65,536 cycles", cycles == MOST_CYCLES);
-        let longest = |entry: &[u32]| config.is_sequence() && entry[0] - entry[2] == 31;
-        case.tally.situation("attempt failed in its 32nd cycle", list[..needed].chunks_exact(3).any(longest));
-        let own_cycle = list[..needed].chunks_exact(3).any(|entry| entry[0] == entry[2]);
-        case.tally.situation("failures, start in its own cycle", own_cycle);
+        tally_list(case.tally, config, &list[..needed]);
     }
     case.tally.situation("failures, list exactly long enough", refusal == 0 && needed > 0 && list_len == needed);
     case.tally.situation("failures, list longer", refusal == 0 && needed > 0 && list_len > needed);
@@ -439,11 +508,23 @@ pub fn failures(case: &mut Case) -> Outcome {
     Ok(())
 }
 
+fn tally_list(tally: &mut Tally, config: Config, list: &[u32]) {
+    let entries = || list.chunks_exact(3);
+    let marks: Vec<u32> = entries().map(|entry| entry[1]).collect();
+    tally.rows(Call::Failures, config.kind, &marks);
+    let in_32nd_cycle = |entry: &[u32]| config.is_sequence() && entry[0] - entry[2] == 31;
+    tally.situation("attempt failed in its 32nd cycle", entries().any(in_32nd_cycle));
+    tally.situation("failures, start in its own cycle", entries().any(|entry| entry[0] == entry[2]));
+    if config.has_window() {
+        tally.window(config.kind, windows::LONGEST_LIST, entries().len() >= LONGEST_WINDOW as usize);
+    }
+}
+
 pub fn open_count(case: &mut Case) -> Outcome {
-    let config = case.config();
+    let config = case.config_for_word();
     let mut word = case.random.next();
     if config.refusal() == 0 {
-        word = any_word(&mut case.random, config, 200);
+        word = any_word(&mut case.random, config, 300);
     }
     let due = rules::open_count(config, word);
     same("answer", host::open_count(config, word), due)
@@ -462,7 +543,7 @@ fn checkers_and_cycles(case: &mut Case) -> (u64, u64) {
         Size::Greatest => (64, 65_536),
         Size::TooLong => (case.random.pick(&[0, 1, 2]), 65_537),
         Size::WordMore => (case.random.pick(&[0, 1, 2]), 65_536),
-        Size::Any => {
+        Size::Any | Size::Longest(_) => {
             let checkers = case.random.pick(&[0, 1, 1, 2, 2, 3, 7, 63, 64, 65, any_checkers, any_checkers, any_checkers]);
             let cycles = case.random.pick(&[0, 1, 2, 5, 20, 20, 50, 200, 999]);
             match case.random.below(64) {

@@ -1,6 +1,6 @@
 //! The inputs: configurations, traces, open words and records, all from one deterministic generator.
 
-use crate::rules::{cycles_left_in, reference_in, with_reference, Config, Frame, Range};
+use crate::rules::{cycles_left_in, reference_in, with_reference, Config, Frame, Range, LONGEST_WINDOW};
 
 /// splitmix64
 pub struct Random(u64);
@@ -83,13 +83,21 @@ pub fn good_config(random: &mut Random) -> Config {
     good_config_of(random, kind)
 }
 
+/// A length of a window that is not short: at the limit and around 50,000, around the limit that §5 raised, or anything.
+fn long_window(random: &mut Random) -> u32 {
+    let any = 1 + random.below(LONGEST_WINDOW as usize) as u32;
+    let around_50_000 = 49_990 + any % 21;
+    random.pick(&[LONGEST_WINDOW, LONGEST_WINDOW, LONGEST_WINDOW - 1, around_50_000, any, 1023, 1024, 1025, 1 + any % 1100])
+}
+
 pub fn good_config_of(random: &mut Random, kind: u8) -> Config {
-    let any = random.below(1025) as u32;
+    let any = random.below(LONGEST_WINDOW as usize + 1) as u32;
+    let long = long_window(random);
     let n = match kind {
         0..=2 => random.pick(&[2, 2, 3, 3, 4, 5, 6, 8, 16, 31, 32, 32, 2 + any % 31]),
-        3..=5 => random.pick(&[1, 1, 2, 2, 3, 4, 5, 7, 10, 20, 1023, 1024, any.max(1), 1 + any % 40]),
+        3..=5 => random.pick(&[1, 1, 2, 2, 3, 4, 5, 7, 10, 20, long, long, long, 1 + any % 40]),
         6 => 0,
-        _ => random.pick(&[0, 0, 1, 1, 2, 2, 3, 4, 5, 7, 10, 20, 1023, 1024, 1024, any, any % 40]),
+        _ => random.pick(&[0, 0, 1, 1, 2, 2, 3, 4, 5, 7, 10, 20, long, long, long, long, any % 40]),
     };
     let width = random.pick(&[1, 1, 2, 3, 4, 8, 31, 32, 32, 1 + any % 32]);
     let (p, q, r) = match kind {
@@ -109,12 +117,22 @@ pub fn good_config_of(random: &mut Random, kind: u8) -> Config {
     config
 }
 
+/// A window of the greatest length, whose last cycle can fail.
+pub fn longest_config(random: &mut Random, kind: u8) -> Config {
+    let config = good_config_of(random, kind);
+    let below_max = random.below(LONGEST_WINDOW as usize) as u32;
+    let min = random.pick(&[0, 0, 1, LONGEST_WINDOW - 1, below_max]);
+    Config { n: LONGEST_WINDOW, min: if config.is_after_trigger() { min } else { 0 }, ..config }
+}
+
 /// n just outside of its limits, far outside, or anything. Where the width can follow n, it does: then n alone is bad.
 fn damage_n(random: &mut Random, config: &mut Config) {
+    // Above the limit, and also such that the lower 16 bits alone would be a good n.
+    let (above, low) = (LONGEST_WINDOW + 1, random.below(100) as u32);
     config.n = match config.kind {
-        0..=2 => random.pick(&[0, 1, 1, 33, 33, 64, 1024, u32::MAX]),
-        3..=5 => random.pick(&[0, 0, 1025, 1025, 65_536, u32::MAX]),
-        7 | 8 => random.pick(&[config.min.saturating_sub(1), 1025, 1025, 65_536, u32::MAX]),
+        0..=2 => random.pick(&[0, 1, 1, 33, 33, 64, 1024, LONGEST_WINDOW, u32::MAX]),
+        3..=5 => random.pick(&[0, 0, above, above, above + 1, above + low, u32::MAX]),
+        7 | 8 => random.pick(&[config.min.saturating_sub(1), above, above, above + 1, above + low, u32::MAX]),
         _ => random.pick(&[1, 1, 2, 32, 256, u32::MAX]),
     };
     if config.is_sequence() && config.n == 1 && random.chance(512) {
@@ -150,9 +168,9 @@ fn damage_min(random: &mut Random, config: &mut Config) {
     let any = random.word();
     config.min = if config.is_after_trigger() {
         let above = config.n.wrapping_add(1);
-        random.pick(&[above, above, above, 1025, u32::MAX, any])
+        random.pick(&[above, above, above, LONGEST_WINDOW, LONGEST_WINDOW + 1, u32::MAX, any])
     } else {
-        random.pick(&[1, 1, config.n, 1024, u32::MAX, any])
+        random.pick(&[1, 1, config.n, LONGEST_WINDOW, u32::MAX, any])
     };
 }
 
@@ -299,15 +317,20 @@ fn plant_triggers(random: &mut Random, config: Config, trace: &mut [u32], s: usi
     }
 }
 
+fn styled_frames(random: &mut Random, config: Config, cycles: usize, style: &Style) -> Vec<u32> {
+    let mut trace = Vec::with_capacity(4 * cycles);
+    for _ in 0..cycles {
+        trace.extend(frame(random, config, style));
+    }
+    trace
+}
+
 pub fn trace(random: &mut Random, config: Config, cycles: usize) -> Vec<u32> {
     if config.refusal() != 0 {
         return random.words(4 * cycles);
     }
     let style = style(random);
-    let mut trace = Vec::with_capacity(4 * cycles);
-    for _ in 0..cycles {
-        trace.extend(frame(random, config, &style));
-    }
+    let mut trace = styled_frames(random, config, cycles, &style);
     for s in 0..cycles {
         if config.is_sequence() && random.chance(style.planted) {
             plant_attempt(random, config, &mut trace, s);
@@ -316,6 +339,86 @@ pub fn trace(random: &mut Random, config: Config, cycles: usize) -> Vec<u32> {
         }
     }
     trace
+}
+
+/// What is certain of the tested cycles of a window: the last does not fail, or it does, or all do.
+#[derive(Clone, Copy, PartialEq)]
+pub enum Failing {
+    NotLast,
+    Last,
+    All,
+}
+
+fn put_start(config: Config, trace: &mut [u32], s: usize) {
+    if config.is_time() {
+        put_bit(&mut trace[4 * s + 1], config.p, 0, true);
+    } else {
+        put_bit(&mut trace[4 * s], ENABLE, 0, true);
+        put_bit(&mut trace[4 * s + 2], config.q, 0, true);
+    }
+}
+
+/// Makes a tested cycle pass or fail; `right` is the tracked value that passes.
+fn put_outcome(config: Config, trace: &mut [u32], t: usize, right: u32, passes: bool) {
+    if config.is_time() {
+        put_bit(&mut trace[4 * t + 2], config.q, 0, passes);
+    } else {
+        put_bit(&mut trace[4 * t], ENABLE, 0, true);
+        put_value(&mut trace[4 * t + 1], config.p, right ^ u32::from(!passes));
+    }
+}
+
+/// A trace in which the start in s has a window that closes, unless an earlier start has. There is no reset, and for kind 4,
+/// where a second start would put off the end, no other start.
+pub fn window_trace(random: &mut Random, config: Config, cycles: usize, s: usize, failing: Failing) -> Vec<u32> {
+    let drawn = style(random);
+    let start = if config.kind == 4 { 0 } else { drawn.start };
+    let style = Style { reset: 0, start, ..drawn };
+    let mut trace = styled_frames(random, config, cycles, &style);
+    let right = if config.kind == 7 { config.value } else { style.states[0] };
+    let first = if config.is_time() { s + 1 } else { s + config.min as usize };
+    let last = s + config.n as usize;
+    if failing == Failing::All {
+        (first..=last).for_each(|t| put_outcome(config, &mut trace, t, right, false));
+    }
+    put_outcome(config, &mut trace, last, right, failing == Failing::NotLast);
+    if config.kind == 8 {
+        // The reference.
+        put_outcome(config, &mut trace, first, right, true);
+    }
+    put_start(config, &mut trace, s);
+    trace
+}
+
+/// A trace longer than the window of its configuration, in which most often a window closes: a second start in its last
+/// cycle, behind it or within it, and a reset, are seldom.
+pub fn long_trace(random: &mut Random, config: Config, cycles: usize) -> Vec<u32> {
+    let n = config.n as usize;
+    let (any, within) = (random.below(cycles - n), random.below(n));
+    let s = random.pick(&[0, cycles - n - 1, any]);
+    let failing = random.pick(&[Failing::NotLast, Failing::Last, Failing::All]);
+    let mut trace = window_trace(random, config, cycles, s, failing);
+    let second = random.pick(&[s + n, s + n + 1, s + 1 + within]);
+    if second < cycles && random.chance(256) {
+        put_start(config, &mut trace, second);
+    }
+    if random.chance(128) {
+        trace[4 * random.below(cycles)] &= !1;
+    }
+    trace
+}
+
+/// The frame of cycle 0 with its start taken away or put there, by the start itself or by what a start needs.
+pub fn edited_in_cycle_0(random: &mut Random, config: Config, old: &[u32]) -> Vec<u32> {
+    let mut new = old.to_vec();
+    let (port, start) = if config.is_time() { (1, config.p) } else { (2, config.q) };
+    let needed = if config.is_time() { 1 } else { random.pick(&[1, 2]) };
+    if random.chance(512) {
+        new[port] ^= 1 << start.wire(0);
+    } else {
+        new[0] ^= needed;
+    }
+    new
 }
 
 /// A trace with the same frames outside a to b−1.
@@ -387,6 +490,9 @@ fn impossible_stability_word(random: &mut Random, config: Config) -> u64 {
     words.extend([with_reference(1, above); 2]);
     // Without a reference, where min is 0.
     words.extend([1, 1, max, max]);
+    // 65,536 cycles left would be a reference more by one, and none left.
+    let longest = u64::from(LONGEST_WINDOW);
+    words.extend([longest, longest + 1, longest + 1, with_reference(longest, fits), with_reference(longest + 1, fits)]);
     if random.chance(300) {
         let (above_max, above_reference) = (1 << (11 + any % 5), 1 << (49 + any % 15));
         words = vec![max + 2, 1 << 16 | 1, fits << 16 | 1, u64::MAX, any | 1 << 50, with_reference(max, fits)];
@@ -408,13 +514,16 @@ pub fn passing_word(config: Config, frame: Frame, word: u64) -> u64 {
 }
 
 pub fn impossible_word(random: &mut Random, config: Config) -> u64 {
-    let n = u64::from(config.n);
+    let (n, longest) = (u64::from(config.n), u64::from(LONGEST_WINDOW));
     let any = random.next();
     match config.kind {
         0 | 1 => random.pick(&[1 << (n - 1), 1 << n, u64::MAX, any | 1 << 40, (1 << (n - 1)) + 1]),
         2 => random.pick(&[1 << (n - 1), 3 << (n - 2), 1 << n, u64::MAX, 1 << 63 | 1, if n > 2 { 3 } else { 2 }]),
-        3..=5 => random.pick(&[n + 1, n + 2, u64::MAX, 1 << 32 | 1, any | 1 << 20]),
-        7 => random.pick(&[n + 1, n + 1, n + 2, u64::MAX, with_reference(1.min(n), 0), any | 1 << 20]),
+        3..=5 => random.pick(&[n + 1, n + 2, longest.max(n + 1), longest + 1, u64::MAX, 1 << 32 | 1, any | 1 << 20]),
+        7 => {
+            let held = with_reference(1.min(n), 0);
+            random.pick(&[n + 1, n + 1, n + 2, longest.max(n + 1), longest + 1, u64::MAX, held, any | 1 << 20])
+        }
         8 => impossible_stability_word(random, config),
         _ => {
             let above = (1 << 32) + (1u64 << config.p.width());

@@ -1,5 +1,5 @@
-//! A second program for the rules of document 01 with §2 and §4 of document 02, and a comparison of the library with it on
-//! many inputs.
+//! A second program for the rules of document 01 with §2, §4 and §5 of document 02, and a comparison of the library with it
+//! on many inputs.
 //!
 //! SEED=n sets the seed; CASES=n or SECONDS=n how long to run; CASE=n runs one case alone.
 
@@ -50,10 +50,15 @@ fn number(name: &str) -> Option<u64> {
     }
 }
 
-/// The greatest sizes are slow, so each comes once in 300 turns of a place in the order; the places are set apart.
+/// The greatest sizes are slow, so each comes once in 300 turns of a place in the order, and a longest window once in 120;
+/// the places are set apart.
 fn size(case: u64) -> Size {
     let place = case % TURNS.len() as u64;
-    match (case / TURNS.len() as u64 + 19 * place) % 300 {
+    let turn = case / TURNS.len() as u64 + 19 * place;
+    if turn % 120 == 45 {
+        return Size::Longest(turn / 120);
+    }
+    match turn % 300 {
         100 => Size::Greatest,
         200 => Size::TooLong,
         290 => Size::WordMore,
@@ -94,7 +99,10 @@ fn compare_all(seed: u64) -> Result<String, String> {
     tally.print();
     let missed = tally.missed();
     if !missed.is_empty() {
-        return Err(format!("{cases} cases, seed {seed}, all equal, but these had no case:\n  {}", missed.join("\n  ")));
+        return Err(format!(
+            "{cases} cases, seed {seed}, all equal, but these had too few cases:\n  {}",
+            missed.join("\n  ")
+        ));
     }
     Ok(format!("\nsecond: {cases} cases, seed {seed}, all equal, none was missed"))
 }

@@ -1,10 +1,13 @@
-//! The rules of document 01, with §2 and §4 of document 02, as a search over starts. A full check looks, for every cycle,
+//! The rules of document 01, with §2, §4 and §5 of document 02, as a search over starts. A full check looks, for every cycle,
 //! for the starts that matter in it; a step from an open word builds a trace that leaves this word and asks the same search
-//! about its last cycle. The sentence that a function follows is quoted above it, from document 01 where no other is named.
+//! about the cycle behind it, and a recheck about all cycles behind it. The sentence that a function follows is quoted above
+//! it, from document 01 where no other is named.
 
 pub const MARKS: [u32; 5] = [1, 2, 4, 8, 16];
 pub const MOST_CYCLES: usize = 65_536;
 pub const MOST_CHECKERS: usize = 64;
+/// §5: "Raise n for kinds 3 to 5 from 1,024 to 65,535, and max in §4 too. 65,536 is refusal 2."
+pub const LONGEST_WINDOW: u32 = 65_535;
 const STORED: u64 = 1 << 32;
 const HELD: u64 = 1 << 48;
 const REFERENCE_SHIFT: u32 = 16;
@@ -69,14 +72,19 @@ impl Config {
         matches!(self.kind, 7 | 8)
     }
 
-    /// The limits of n in the table of kinds; §4: "max above 1,024, is refusal 2".
+    /// The kinds whose n is the length of a window.
+    pub fn has_window(self) -> bool {
+        self.is_time() || self.is_after_trigger()
+    }
+
+    /// The limits of n in the table of kinds, with those of §4 and §5.
     pub fn limits(self) -> (u32, u32) {
         if self.is_sequence() {
             (2, 32)
         } else if self.is_time() {
-            (1, 1024)
+            (1, LONGEST_WINDOW)
         } else if self.is_after_trigger() {
-            (0, 1024)
+            (0, LONGEST_WINDOW)
         } else {
             (0, 0)
         }
@@ -220,22 +228,47 @@ struct History {
     counted: Vec<usize>,
     /// §4: "Enable is reset word bit 1."
     enable: Vec<bool>,
+    /// §4: the first cycle from this one on with enable 1; where there is none, the number of cycles.
+    next_enabled: Vec<usize>,
     /// §4: the accepted triggers.
     triggers: Vec<usize>,
 }
 
+/// The values of a port, cycle by cycle. Traces that leave a word repeat a frame up to 65,535 times: a word like the one
+/// before it is not read again.
+fn read_port(trace: &[u32], i: usize, range: Range) -> Vec<u32> {
+    let mut last = (0, range.value(0));
+    let mut read = |word: u32| {
+        if word != last.0 {
+            last = (word, range.value(word));
+        }
+        last.1
+    };
+    trace.chunks_exact(4).map(|frame| read(frame[i])).collect()
+}
+
+/// Looked up rather than searched for in every cycle of a window, which could take as many looks as the window is long.
+fn next_enabled(enable: &[bool]) -> Vec<usize> {
+    let mut next = vec![enable.len(); enable.len() + 1];
+    for t in (0..enable.len()).rev() {
+        next[t] = if enable[t] { t } else { next[t + 1] };
+    }
+    next
+}
+
 impl History {
     fn new(config: Config, trace: &[u32]) -> History {
-        let port = |i: usize, range: Range| trace.chunks_exact(4).map(|frame| range.value(frame[i])).collect();
+        let enable: Vec<bool> = trace.chunks_exact(4).map(|frame| frame[0] >> 1 & 1 == 1).collect();
         let mut history = History {
             config,
-            p: port(1, config.p),
-            q: port(2, config.q),
-            r: port(3, config.r),
+            p: read_port(trace, 1, config.p),
+            q: read_port(trace, 2, config.q),
+            r: read_port(trace, 3, config.r),
             running: Vec::new(),
             attempts: Vec::new(),
             counted: Vec::new(),
-            enable: trace.chunks_exact(4).map(|frame| frame[0] >> 1 & 1 == 1).collect(),
+            next_enabled: next_enabled(&enable),
+            enable,
             triggers: Vec::new(),
         };
         for frame in trace.chunks_exact(4) {
@@ -431,8 +464,8 @@ impl History {
 
     /// P of the first enabled cycle from s+min on, if there was one up to t.
     fn reference(&self, s: usize, t: usize) -> Option<u32> {
-        let mut tested = s + self.config.min as usize..=t;
-        tested.find(|&u| self.enable[u]).map(|u| self.p[u])
+        let u = *self.next_enabled.get(s + self.config.min as usize)?;
+        (u <= t).then(|| self.p[u])
     }
 
     /// §4: "The open word is the cycles left to s+max; an open kind 8 window that holds a reference r adds 2^48 plus r times
@@ -441,6 +474,17 @@ impl History {
         let left = (s + self.config.n as usize - t) as u64;
         let reference = if self.config.kind == 8 && left > 0 { self.reference(s, t) } else { None };
         reference.map_or(left, |r| with_reference(left, u64::from(r)))
+    }
+
+    /// The rows and words from this cycle on.
+    fn record_from(&self, first: usize) -> Record {
+        let mut record = Record { rows: Vec::new(), words: Vec::new() };
+        for t in first..self.p.len() {
+            let verdict = self.verdict(t);
+            record.rows.push(verdict.row());
+            record.words.push(verdict.word);
+        }
+        record
     }
 }
 
@@ -452,14 +496,7 @@ pub struct Record {
 
 /// "A trace's true record under a configuration is the rows and words that the rules above give"
 pub fn true_record(config: Config, trace: &[u32]) -> Record {
-    let history = History::new(config, trace);
-    let mut record = Record { rows: Vec::new(), words: Vec::new() };
-    for t in 0..trace.len() / 4 {
-        let verdict = history.verdict(t);
-        record.rows.push(verdict.row());
-        record.words.push(verdict.word);
-    }
-    record
+    History::new(config, trace).record_from(0)
 }
 
 /// Some trace that leaves a possible word.
@@ -500,12 +537,18 @@ fn window_that_leaves(config: Config, word: u64) -> Vec<u32> {
     trace
 }
 
-/// "Some trace leaves each such word; a step from it answers as the rules do after that trace."
-pub fn one_step(config: Config, word: u64, frame: Frame) -> (u32, u64) {
+/// The rows and words of these frames from a word on: "Some trace leaves each such word; a step from it answers as the rules
+/// do after that trace." So do the steps that follow.
+fn record_after(config: Config, word: u64, frames: &[u32]) -> Record {
     let mut trace = trace_that_leaves(config, word);
-    trace.extend(frame);
-    let verdict = History::new(config, &trace).verdict(trace.len() / 4 - 1);
-    (verdict.row(), verdict.word)
+    let first = trace.len() / 4;
+    trace.extend(frames);
+    History::new(config, &trace).record_from(first)
+}
+
+pub fn one_step(config: Config, word: u64, frame: Frame) -> (u32, u64) {
+    let record = record_after(config, word, &frame);
+    (record.rows[0], record.words[0])
 }
 
 /// Refusals 1 to 3, then 7: "the word to go on from is not possible".
@@ -613,6 +656,24 @@ impl Edit<'_> {
     /// a on. It ends at e, the least cycle from b to N such that e is N or its word before e equals the kept one […]. It
     /// writes a to e−1 only. It answers e and five signed changes, one per mark: new count less old count over a to e−1".
     pub fn recheck_any(&self, rows: &mut [u32], words: &mut [u64], answer: &mut [i32]) -> u32 {
+        let refusal = self.refusal(rows, words, answer);
+        if refusal != 0 {
+            return refusal;
+        }
+        let (a, b, last) = (self.a as usize, self.b as usize, rows.len());
+        let new = record_after(self.config, word_before(words, a), &self.trace[4 * a..]);
+        // Before a no step is taken: the word is the kept one.
+        let same = |e: &usize| *e == a || *e == last || new.words[e - 1 - a] == words[e - 1];
+        let e = (b..=last).find(same).unwrap_or(last);
+        write_answer(e, &rows[a..e], &new.rows[..e - a], answer);
+        rows[a..e].copy_from_slice(&new.rows[..e - a]);
+        words[a..e].copy_from_slice(&new.words[..e - a]);
+        0
+    }
+
+    /// The same by single steps, each from a trace of its own that leaves the word before it. Such a trace can be as long as
+    /// a window, so this is for records and windows that are not long.
+    pub fn recheck_by_steps(&self, rows: &mut [u32], words: &mut [u64], answer: &mut [i32]) -> u32 {
         let refusal = self.refusal(rows, words, answer);
         if refusal != 0 {
             return refusal;

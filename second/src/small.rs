@@ -3,7 +3,7 @@
 use crate::cases::{same, same_entries};
 use crate::generate::{wire, UNUSED};
 use crate::host;
-use crate::rules::{self, Config, Edit, Range, Record};
+use crate::rules::{self, Config, Edit, Range, Record, LONGEST_WINDOW};
 
 type Outcome = Result<(), String>;
 
@@ -17,8 +17,12 @@ fn compare_config(config: Config) -> Outcome {
     compare_open_count(config, 0)
 }
 
-/// Numbers at and around the limits of n and of min.
-const BOUNDS: [u32; 11] = [0, 1, 2, 3, 31, 32, 33, 1023, 1024, 1025, u32::MAX];
+/// Numbers at and around the limits of n and of min, the one of 1,024 that §5 raised, and one whose lower 16 bits are small.
+#[rustfmt::skip]
+const BOUNDS: [u32; 16] = [
+    0, 1, 2, 3, 31, 32, 33, 1023, 1024, 1025,
+    LONGEST_WINDOW - 1, LONGEST_WINDOW, LONGEST_WINDOW + 1, LONGEST_WINDOW + 2, LONGEST_WINDOW + 6, u32::MAX,
+];
 
 /// A configuration whose ports are right for this kind and n, if any are.
 fn with_right_ports(kind: u8, n: u32) -> Config {
@@ -152,9 +156,13 @@ fn words_at_limits(config: Config) -> Vec<u64> {
 
 /// Which words are possible, for windows of all sorts on few wires and on many.
 fn window_words() -> Result<u64, String> {
-    let limits = [(0, 0), (0, 3), (1, 3), (3, 3), (0, 1024), (1, 1024), (1000, 1024), (1024, 1024)];
+    let longest = [0, 1, 50_000, LONGEST_WINDOW - 1, LONGEST_WINDOW].map(|min| (min, LONGEST_WINDOW));
+    let limits = [(0, 0), (0, 3), (1, 3), (3, 3), (0, 1024), (0, 1025), (1000, 1025), (0, LONGEST_WINDOW - 1)];
+    let limits: Vec<(u32, u32)> = limits.into_iter().chain(longest).collect();
     let mut compared = 0;
-    for (width, (min, n)) in [1, 2, 16, 31, 32].into_iter().flat_map(|width| limits.map(|limit| (width, limit))) {
+    for (width, &(min, n)) in
+        [1, 2, 16, 31, 32].into_iter().flat_map(|width| limits.iter().map(move |limit| (width, limit)))
+    {
         let p = Range { left: width - 1, right: 0 };
         for kind in [7, 8] {
             let config = Config { kind, n, p, q: wire(9), r: UNUSED, min, value: 0 };
@@ -167,14 +175,35 @@ fn window_words() -> Result<u64, String> {
     Ok(compared)
 }
 
+/// The longest window of every kind that has one.
+fn longest_windows() -> Vec<Config> {
+    let window = |kind, min| Config { kind, n: LONGEST_WINDOW, p: wire(31), q: wire(0), r: UNUSED, min, value: 0 };
+    let mut configs: Vec<Config> = (3..=5).map(|kind| window(kind, 0)).collect();
+    configs.extend([0, 1, LONGEST_WINDOW - 1, LONGEST_WINDOW].into_iter().flat_map(|min| [window(7, min), window(8, min)]));
+    configs
+}
+
 /// Every frame from every word, and the open count of the word.
 fn steps(config: Config) -> Result<u64, String> {
+    steps_from(config, words_to_try(config))
+}
+
+/// The same for a longest window: from the words with the most cycles left, the fewest, and 65,536.
+fn longest_steps(config: Config) -> Result<u64, String> {
+    let longest = u64::from(LONGEST_WINDOW);
+    let lefts = [0, 1, 2, longest - 1, longest, longest + 1];
+    let held = lefts.into_iter().flat_map(|left| [0, 1].map(|reference| rules::with_reference(left, reference)));
+    let words = lefts.into_iter().chain(held.filter(|_| config.is_after_trigger())).collect();
+    steps_from(config, words)
+}
+
+fn steps_from(config: Config, words: Vec<u64>) -> Result<u64, String> {
     let mut compared = 0;
-    for word in words_to_try(config) {
+    for &word in &words {
         compare_open_count(config, word)?;
     }
     for frame in all_frames(config) {
-        for word in words_to_try(config) {
+        for &word in &words {
             let (mut bytes, mut expected) = (word.to_le_bytes(), word.to_le_bytes());
             let context = |d| format!("step, {config:?}, frame {frame:x?}, word {word:#x}: {d}");
             let answer = host::step(config, frame, &mut bytes).map_err(context)?;
@@ -263,6 +292,9 @@ fn compare_all() -> Result<String, String> {
         for (count, compare) in counts.iter_mut().zip([steps, traces, rechecks]) {
             *count += compare(config)?;
         }
+    }
+    for config in longest_windows() {
+        counts[0] += longest_steps(config)?;
     }
     let [steps, traces, rechecks] = counts;
     Ok(format!("{configs} configurations, {words} words, {steps} steps, {traces} traces, {rechecks} rechecks"))

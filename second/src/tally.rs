@@ -63,14 +63,13 @@ const KINDS: RangeInclusive<u8> = 0..=8;
 pub const NO_KIND: u8 = 9;
 
 /// The situations that every run has to meet, besides calls, kinds, marks and refusals.
-const SITUATIONS: [&str; 65] = [
+const SITUATIONS: [&str; 74] = [
     "check of 0 cycles",
     "check of 1 cycle",
     "check of 65,536 cycles",
     "check refused 65,537 cycles",
     "trace of 65,536 cycles and one word more",
     "trace of no multiple of 4 words",
-    "window of 1,024 cycles closed",
     "window restarted, row 20",
     "window restarted in its last cycle, n above 1",
     "window restarted twice running, n = 1",
@@ -104,13 +103,23 @@ const SITUATIONS: [&str; 65] = [
     "kind 9 refused",
     "min refused, one above max",
     "min refused, kinds 0 to 6",
-    "max refused, 1,025",
+    "n refused, 65,536, kinds 3 to 5",
+    "max refused, 65,536",
+    "n accepted, 1,025, kinds 3 to 5",
+    "n accepted, 65,535, kinds 3 to 5",
+    "max accepted, 1,025",
+    "max accepted, 65,535",
     "value refused, kinds 0 to 6",
     "value refused, kind 8",
     "value refused, kind 7, one too large",
     "value accepted, 2^32-1",
     "width of Q refused, kinds 7 and 8",
     "R refused, kinds 7 and 8",
+    "time or value word, 65,535 left",
+    "time or value word refused, 65,536 left",
+    "stability word, reference and 65,535 left",
+    "stability word, 65,535 left and no reference",
+    "stability word refused, 65,536 left",
     "value word, max left",
     "value word refused, max+1 left",
     "stability word without a reference, max left",
@@ -169,7 +178,7 @@ impl Tally {
         *self.situations.entry(name).or_default() += u64::from(met);
     }
 
-    /// A situation of a window of kind 7 or 8; each is counted for either kind.
+    /// A situation of a window; each is counted for every kind that has it.
     pub fn window(&mut self, kind: u8, name: &'static str, met: bool) {
         *self.windows.entry((kind, name)).or_default() += u64::from(met);
     }
@@ -218,7 +227,7 @@ impl Tally {
         }
     }
 
-    /// The names of all that had no case.
+    /// The names of all that had no case, and of the situations that had too few.
     pub fn missed(&self) -> Vec<String> {
         let mut missed = Vec::new();
         for call in CALLS {
@@ -235,9 +244,9 @@ impl Tally {
         }
         let not_met = SITUATIONS.iter().filter(|name| self.situations.get(*name).copied().unwrap_or(0) == 0);
         missed.extend(not_met.map(|name| name.to_string()));
-        for (situation, kind) in windows::SITUATIONS.iter().flat_map(|one| one.kinds.iter().map(move |kind| (one, *kind))) {
-            if self.windows.get(&(kind, situation.name)).copied().unwrap_or(0) == 0 {
-                missed.push(format!("window of kind {kind}: {}", situation.name));
+        for (kind, name, least) in windows::all_situations() {
+            if self.windows.get(&(kind, name)).copied().unwrap_or(0) < least {
+                missed.push(format!("window of kind {kind}: {name}"));
             }
         }
         for call in [FirstFailure, Bench] {

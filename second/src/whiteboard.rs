@@ -1,10 +1,11 @@
 //! The whiteboard table of document 01 and the examples under it. The numbers are the document's, but for the rows of case
 //! H, which §2 of document 02 changes: "Case H becomes 4 0 20 0 20 0, same words." A second table has cases of kinds 7 and 8,
-//! worked by hand from the sentences of §4. The library and the rules are both held against them.
+//! worked by hand from the sentences of §4, and a third has the longest windows, from those of §5. The library and the rules
+//! are both held against them.
 
 use crate::generate::{wire, UNUSED};
 use crate::host;
-use crate::rules::{self, Config, Edit, Range};
+use crate::rules::{self, Config, Edit, Frame, Range};
 use std::fmt::Debug;
 
 type Outcome = Result<(), String>;
@@ -30,8 +31,12 @@ struct Line {
     name: &'static str,
     config: Config,
     trace: Vec<u32>,
-    rows: &'static [u32],
-    words: &'static [u64],
+    rows: Vec<u32>,
+    words: Vec<u64>,
+}
+
+fn line(name: &'static str, config: Config, trace: Vec<u32>, rows: &[u32], words: &[u64]) -> Line {
+    Line { name, config, trace, rows: rows.to_vec(), words: words.to_vec() }
 }
 
 const THREE_WIRES: Range = Range { left: 2, right: 0 };
@@ -71,8 +76,9 @@ const A: [u32; 6] = [8, 4, 10, 5, 2, 1];
 const D: [u32; 6] = [4, 6, 5, 4, 4, 4];
 
 fn sequence_lines() -> Vec<Line> {
-    let line =
-        |name, config, samples: &[u32], rows, words| Line { name, config, trace: frames(samples, &[], &[]), rows, words };
+    let line = |name, config, samples: &[u32], rows: &[u32], words: &[u64]| {
+        line(name, config, frames(samples, &[], &[]), rows, words)
+    };
     vec![
         line("A", sequence(1, 4, 3, 0), &A, &[4, 0, 4, 0, 0, 0], &[1, 2, 5, 2, 4, 0]),
         line("B", sequence(0, 4, 3, 0), &A, &[0, 0, 4, 0, 4, 0], &[1, 2, 5, 2, 4, 0]),
@@ -84,7 +90,6 @@ fn sequence_lines() -> Vec<Line> {
 }
 
 fn other_lines() -> Vec<Line> {
-    let line = |name, config, trace, rows, words| Line { name, config, trace, rows, words };
     let g = || frames(&[1, 0, 1, 0, 1, 0], &[0, 1, 0, 1, 1, 1], &[]);
     vec![
         line("G", time(3, 3), g(), &[4, 0, 1, 8, 4, 0], &[3, 2, 1, 0, 3, 2]),
@@ -116,9 +121,8 @@ fn other_lines() -> Vec<Line> {
 /// R: min is 0, so the reference is the 3 of cycle 0. The trigger in cycle 2 is at s+max and ignored. The one in cycle 3 is
 ///    accepted, with the reference 5, from which the 2 at its s+max differs.
 fn window_lines() -> Vec<Line> {
-    let line = |name, config, samples: [&[u32]; 3], rows, words| {
-        let trace = window_frames(samples);
-        Line { name, config, trace, rows, words }
+    let line = |name, config, samples: [&[u32]; 3], rows: &[u32], words: &[u64]| {
+        line(name, config, window_frames(samples), rows, words)
     };
     let m: [&[u32]; 3] = [&[1, 1, 1, 1, 1], &[1, 0, 0, 0, 0], &[2, 5, 5, 5, 0]];
     let n: [&[u32]; 3] = [&[1, 1, 1, 1, 1], &[1, 0, 0, 0, 0], &[5, 4, 5, 7, 4]];
@@ -145,11 +149,11 @@ fn check_line(line: &Line) -> Outcome {
     let cycles = line.trace.len() / 4;
     let (mut rows, mut words) = (vec![77; cycles], vec![77; cycles]);
     is("answer", host::check(line.config, &line.trace, &mut rows, &mut words)?, 0)?;
-    are("rows of the library", &rows, line.rows)?;
-    are("words of the library", &words, line.words)?;
+    are("rows of the library", &rows, &line.rows)?;
+    are("words of the library", &words, &line.words)?;
     let record = rules::true_record(line.config, &line.trace);
-    are("rows of the rules", &record.rows, line.rows)?;
-    are("words of the rules", &record.words, line.words)?;
+    are("rows of the rules", &record.rows, &line.rows)?;
+    are("words of the rules", &record.words, &line.words)?;
     let mut bytes = [0; 8];
     for (t, frame) in line.trace.chunks_exact(4).enumerate() {
         let frame = [frame[0], frame[1], frame[2], frame[3]];
@@ -170,7 +174,7 @@ fn check_list(config: Config, trace: &[u32], list: &[u32]) -> Outcome {
 /// A recheck of the true record of `old` after the edit from a to b.
 fn check_recheck(edit: &Edit, old: &[u32], rows: &[u32], words: &[u64], answer: [i32; 6]) -> Outcome {
     let kept = rules::true_record(edit.config, old);
-    for by in ["the library", "the rules", "steps of the rules"] {
+    for by in ["the library", "the rules", "the rules from the kept word"] {
         let (mut r, mut w, mut x) = (kept.rows.clone(), kept.words.clone(), [99; 6]);
         let refusal = match by {
             "the library" => host::recheck(edit, &mut r, &mut w, &mut x)?,
@@ -202,11 +206,11 @@ fn examples() -> Outcome {
 }
 
 /// "Limits: kind 1 takes n 2 and 32, not 1 or 33; kind 3 takes 1 and 1,024, not 0 or 1,025; N 65,536 passes and 65,537 is
-/// refused; a=b=N=0 gives e=0."
+/// refused; a=b=N=0 gives e=0." By §5 kind 3 takes 1,025 as well; `longest_limits` has its new limit.
 fn limits() -> Outcome {
     let at = |n: u32| sequence(1, n, (n - 1).min(31) as u8, 0);
     let limits = [(at(2), 0), (at(32), 0), (at(1), 2), (at(33), 2)];
-    let times = [(time(3, 1), 0), (time(3, 1024), 0), (time(3, 0), 2), (time(3, 1025), 2)];
+    let times = [(time(3, 1), 0), (time(3, 1024), 0), (time(3, 0), 2), (time(3, 1025), 0)];
     for (config, due) in limits.into_iter().chain(times) {
         is(&format!("{config:?} by the library"), host::check(config, &[], &mut [], &mut [])?, due)?;
         is(&format!("{config:?} by the rules"), config.refusal(), due)?;
@@ -257,9 +261,9 @@ fn window_limits() -> Outcome {
         (nine, 1),
         (value(0, 0, 7), 0),
         (value(1024, 1024, 0), 0),
-        (value(0, 1025, 0), 2),
+        (value(0, 1025, 0), 0),
         (value(4, 3, 0), 2),
-        (value(1025, 1025, 0), 2),
+        (value(1025, 1025, 0), 0),
         (value(0, 3, 8), 3),
         (wide(1, 1), 0),
         (wide(2, 1), 3),
@@ -330,6 +334,238 @@ fn greatest_changes() -> Outcome {
     Ok(())
 }
 
+/// The trace of 65,536 cycles that has this frame in every cycle but those named.
+fn long_frames(quiet: Frame, others: &[(usize, Frame)]) -> Vec<u32> {
+    let mut trace = quiet.repeat(65_536);
+    for (t, frame) in others {
+        trace[4 * t..4 * t + 4].copy_from_slice(frame);
+    }
+    trace
+}
+
+/// The 65,536 rows that are 0 in every cycle but those named.
+fn long_rows(others: &[(usize, u32)]) -> Vec<u32> {
+    let mut rows = vec![0; 65_536];
+    for (t, row) in others {
+        rows[*t] = *row;
+    }
+    rows
+}
+
+/// With a start in cycle 0 and n 65,535, 65,535−t cycles are left after cycle t: from 65,535 down to 0 in the last cycle.
+fn countdown() -> Vec<u64> {
+    (0..=65_535).rev().collect()
+}
+
+/// The same with a reference from the cycle `first` on; in the last cycle the window is over, and the word 0.
+fn held_countdown(reference: u64, first: usize) -> Vec<u64> {
+    let mut words = countdown();
+    words[first..65_535].iter_mut().for_each(|left| *left += (1 << 48) + (reference << 16));
+    words
+}
+
+/// Time: start 0 and test 1; a start with test 0; test 0 alone; a start with test 1.
+const QUIET: Frame = [1, 0, 1, 0];
+const START: Frame = [1, 1, 0, 0];
+const TEST_0: Frame = [1, 0, 0, 0];
+const START_TEST_1: Frame = [1, 1, 1, 0];
+
+/// Windows of n 65,535 over 65,536 cycles, opened in cycle 0: the last cycle, 65,535, is s+n.
+///
+/// S: test 0 in cycle 0, where it is not sampled, and in the last cycle: 1 for the failure and 8.
+/// T: test 0 in cycle 0 only: 8 in the last cycle.
+/// U: a second start in the last cycle, which is still pending. Kind 3 ignores it; kind 4 sets 16 and 4, takes no test and
+///    counts 65,535 afresh; kind 5 sets 2 besides 8.
+fn longest_time_lines() -> Vec<Line> {
+    let mut lines = Vec::new();
+    let s = long_frames(QUIET, &[(0, START), (65_535, TEST_0)]);
+    let t = long_frames(QUIET, &[(0, START)]);
+    let u = long_frames(QUIET, &[(0, START), (65_535, START_TEST_1)]);
+    let mut counted_afresh = countdown();
+    counted_afresh[65_535] = 65_535;
+    let second_start = [(3, 8, countdown()), (4, 20, counted_afresh), (5, 10, countdown())];
+    for (kind, row, words) in second_start {
+        let config = time(kind, 65_535);
+        lines.push(line("S", config, s.clone(), &long_rows(&[(0, 4), (65_535, 9)]), &countdown()));
+        lines.push(line("T", config, t.clone(), &long_rows(&[(0, 4), (65_535, 8)]), &countdown()));
+        lines.push(line("U", config, u.clone(), &long_rows(&[(0, 4), (65_535, row)]), &words));
+    }
+    lines
+}
+
+/// Kinds 7 and 8: enable 1 and the tracked value 5 or 4, without a trigger.
+const FIVE: Frame = [3, 5, 0, 0];
+const FOUR: Frame = [3, 4, 0, 0];
+
+/// The same with a trigger, and the tracked value given.
+const fn trigger(tracked: u32) -> Frame {
+    [3, tracked, 1, 0]
+}
+
+/// The same of kinds 7 and 8, with max 65,535.
+///
+/// V: min is 1, so the 4 in cycle 0 is not tested; the 4 in the last cycle is, and fails at s+max: 1 and 8.
+/// W: the 4 in cycle 0 only: 8 in the last cycle. The trigger there is ignored.
+/// X: min is 1, so the reference is the 5 of cycle 1, and is in the words from there on; the 4 in the last cycle differs.
+/// Y: no other value than that of the reference but in cycle 0: 8 in the last cycle. The trigger there is ignored.
+/// Z: min is 0, so the reference is the 4 of cycle 0, with 65,535 cycles left; enable is 0 in all cycles after it but the
+///    last, so that the 5 in them is not compared. The 5 in the last is: 1 and 8.
+fn longest_window_lines() -> Vec<Line> {
+    let failed = long_rows(&[(0, 4), (65_535, 9)]);
+    let closed = long_rows(&[(0, 4), (65_535, 8)]);
+    let wrong_last = long_frames(FIVE, &[(0, trigger(4)), (65_535, FOUR)]);
+    let right_last = long_frames(FIVE, &[(0, trigger(4)), (65_535, trigger(5))]);
+    let disabled = long_frames([1, 5, 0, 0], &[(0, trigger(4)), (65_535, FIVE)]);
+    vec![
+        line("V", value(1, 65_535, 5), wrong_last.clone(), &failed, &countdown()),
+        line("W", value(1, 65_535, 5), right_last.clone(), &closed, &countdown()),
+        line("X", stability(1, 65_535), wrong_last, &failed, &held_countdown(5, 1)),
+        line("Y", stability(1, 65_535), right_last, &closed, &held_countdown(5, 1)),
+        line("Z", stability(0, 65_535), disabled, &failed, &held_countdown(4, 0)),
+    ]
+}
+
+/// The failures of S to Z: at most one, in the last cycle, and the illegal start of U under kind 5.
+fn longest_lists(lines: &[Line]) -> Outcome {
+    for line in lines {
+        let list: &[u32] = match (line.name, line.config.kind) {
+            ("S" | "V" | "X" | "Z", _) => &[65_535, 1, 0],
+            ("U", 5) => &[65_535, 2, 0],
+            _ => &[],
+        };
+        check_list(line.config, &line.trace, list).map_err(|d| format!("case {}: {d}", line.name))?;
+    }
+    Ok(())
+}
+
+/// A failure in each of cycles 1 to 65,535, all from the start in cycle 0: 65,535 entries. With a word less it is refused.
+fn longest_list() -> Outcome {
+    let list: Vec<u32> = (1..=65_535).flat_map(|t| [t, 1, 0]).collect();
+    let mut cases: Vec<(Config, Vec<u32>)> = Vec::new();
+    for kind in 3..=5 {
+        cases.push((time(kind, 65_535), long_frames(TEST_0, &[(0, START)])));
+    }
+    // The value in cycle 0 is right, or is the reference.
+    cases.push((value(0, 65_535, 5), long_frames(FOUR, &[(0, trigger(5))])));
+    cases.push((stability(0, 65_535), long_frames(FOUR, &[(0, trigger(5))])));
+    for (config, trace) in cases {
+        check_list(config, &trace, &list).map_err(|d| format!("{config:?}: {d}"))?;
+        let mut short = vec![99; 3 * 65_535 - 1];
+        is("answer for a list one word short", host::failures(config, &trace, &mut short)?, 8 << 32)?;
+        are("list one word short", &short, &[99; 3 * 65_535 - 1])?;
+    }
+    Ok(())
+}
+
+/// Edits of cycle 0 of time checks with n 65,535. The words before the edit and after it differ in all cycles but perhaps the
+/// last, 65,535: the recheck ends with the trace.
+fn longest_time_rechecks() -> Outcome {
+    // The start is taken away, and with it the failure and the 8 of the last cycle; then it is put back.
+    let with = long_frames(QUIET, &[(0, START), (65_535, TEST_0)]);
+    let without = long_frames(QUIET, &[(65_535, TEST_0)]);
+    let edit = |kind, trace| Edit { config: time(kind, 65_535), trace, a: 0, b: 1 };
+    let opened = long_rows(&[(0, 4), (65_535, 9)]);
+    check_recheck(&edit(3, &without), &with, &long_rows(&[]), &[0; 65_536], [65_536, -1, 0, -1, -1, 0])?;
+    check_recheck(&edit(3, &with), &without, &opened, &countdown(), [65_536, 1, 0, 1, 1, 0])?;
+
+    // The row of the start in the last cycle was 20, and becomes 4: nothing is pending there any more.
+    let with = long_frames(QUIET, &[(0, START), (65_535, START_TEST_1)]);
+    let without = long_frames(QUIET, &[(65_535, START_TEST_1)]);
+    let mut words = [0; 65_536];
+    words[65_535] = 65_535;
+    check_recheck(&edit(4, &without), &with, &long_rows(&[(65_535, 4)]), &words, [65_536, 0, 0, -1, 0, -1])?;
+
+    // The start in cycle 7 was illegal, and now opens the window, of which 7 cycles are left in the end: no 8. The failure
+    // in cycle 3 is gone; that in the last cycle is still one, without the 8. The rows were 4, 1, 2 and 9.
+    let others = [(3, TEST_0), (7, START_TEST_1), (65_535, TEST_0)];
+    let without = long_frames(QUIET, &others);
+    let mut with = without.clone();
+    with[..4].copy_from_slice(&START);
+    let words: Vec<u64> = (0..65_536).map(|t| if t < 7 { 0 } else { 65_535 + 7 - t }).collect();
+    check_recheck(&edit(5, &without), &with, &long_rows(&[(7, 4), (65_535, 1)]), &words, [65_536, -1, -1, 0, -1, 0])
+}
+
+/// The same of kinds 7 and 8.
+fn longest_window_rechecks() -> Outcome {
+    // The trigger is taken away: with it go the failures in cycle 0 and in the last, the 4 and the 8.
+    let config = value(0, 65_535, 5);
+    let old = long_frames(FIVE, &[(0, trigger(4)), (65_535, FOUR)]);
+    let new = long_frames(FIVE, &[(0, FOUR), (65_535, FOUR)]);
+    let edit = Edit { config, trace: &new, a: 0, b: 1 };
+    check_recheck(&edit, &old, &long_rows(&[]), &[0; 65_536], [65_536, -2, 0, -1, -1, 0])?;
+
+    // The reference becomes 3, from which the 5 in all of the other 65,535 cycles differs.
+    let config = stability(0, 65_535);
+    let (old, new) = (long_frames(FIVE, &[(0, trigger(5))]), long_frames(FIVE, &[(0, trigger(3))]));
+    let mut rows = [1; 65_536];
+    (rows[0], rows[65_535]) = (4, 9);
+    let edit = Edit { config, trace: &new, a: 0, b: 1 };
+    check_recheck(&edit, &old, &rows, &held_countdown(3, 0), [65_536, 65_535, 0, 0, 0, 0])
+}
+
+/// §5: n "for kinds 3 to 5 from 1,024 to 65,535, and max in §4 too. 65,536 is refusal 2." The last but one has lower 16 bits
+/// that would do.
+fn longest_limits() -> Outcome {
+    let of_n =
+        [(1025, 0), (50_000, 0), (65_534, 0), (65_535, 0), (65_536, 2), (65_537, 2), (65_536 + 50_000, 2), (u32::MAX, 2)];
+    let mut limits = Vec::new();
+    for (n, due) in of_n {
+        limits.extend([time(3, n), time(4, n), time(5, n), value(0, n, 5), stability(0, n)].map(|config| (config, due)));
+    }
+    for (min, n, due) in [(65_535, 65_535, 0), (65_536, 65_535, 2), (65_536, 65_536, 2), (65_535, 65_534, 2)] {
+        limits.extend([(value(min, n, 5), due), (stability(min, n), due)]);
+    }
+    for (config, due) in limits {
+        is(&format!("{config:?} by the library"), host::check(config, &[], &mut [], &mut [])?, due)?;
+        is(&format!("{config:?} by the rules"), config.refusal(), due)?;
+    }
+    Ok(())
+}
+
+/// Words of windows with n or max 65,535. With a reference, 65,536 cycles left would be one more in the reference and none
+/// left.
+fn longest_words() -> Outcome {
+    const HELD: u64 = 1 << 48;
+    let mut counts = vec![
+        (value(65_535, 65_535, 5), 65_535, 1),
+        (stability(1, 65_535), 65_535, 1),
+        (stability(1, 65_535), 65_536, 1792),
+        (stability(1, 65_535), HELD + 65_534, 1),
+        (stability(1, 65_535), HELD + 65_535, 1792),
+        (stability(0, 65_535), 65_535, 1792),
+        (stability(0, 65_535), HELD + 65_535, 1),
+        (stability(0, 65_535), HELD + (7 << 16) + 65_535, 1),
+        (stability(0, 65_535), HELD + (8 << 16) + 65_535, 1792),
+        (stability(0, 65_535), HELD + 65_536, 1792),
+        (stability(65_535, 65_535), 65_535, 1),
+        (stability(65_535, 65_535), HELD + 1, 1792),
+    ];
+    for config in [time(3, 65_535), time(4, 65_535), time(5, 65_535), value(0, 65_535, 5)] {
+        counts.extend([(config, 65_535, 1), (config, 65_536, 1792)]);
+    }
+    for (config, word, due) in counts {
+        is(&format!("{config:?}, word {word:#x} by the library"), host::open_count(config, word), due)?;
+        is(&format!("{config:?}, word {word:#x} by the rules"), rules::open_count(config, word), due)?;
+    }
+    Ok(())
+}
+
+/// The longest windows; the answer is how many cases there are in their table.
+fn longest() -> Result<usize, String> {
+    longest_limits().map_err(|d| format!("limits of the longest windows: {d}"))?;
+    longest_words().map_err(|d| format!("words of the longest windows: {d}"))?;
+    let lines: Vec<Line> = longest_time_lines().into_iter().chain(longest_window_lines()).collect();
+    for line in &lines {
+        check_line(line)
+            .map_err(|d| format!("case {} of the longest windows, kind {}: {d}", line.name, line.config.kind))?;
+    }
+    longest_lists(&lines).map_err(|d| format!("failure lists of the longest windows: {d}"))?;
+    longest_list().map_err(|d| format!("longest failure list: {d}"))?;
+    longest_time_rechecks().map_err(|d| format!("rechecks of the longest windows, kinds 3 to 5: {d}"))?;
+    longest_window_rechecks().map_err(|d| format!("rechecks of the longest windows, kinds 7 and 8: {d}"))?;
+    Ok(lines.len())
+}
+
 /// What was compared, in words.
 pub fn compare() -> Result<String, String> {
     let document: Vec<Line> = sequence_lines().into_iter().chain(other_lines()).collect();
@@ -344,9 +580,10 @@ pub fn compare() -> Result<String, String> {
     window_recheck().map_err(|d| format!("recheck of kind 7: {d}"))?;
     window_limits().map_err(|d| format!("limits of kinds 7 and 8: {d}"))?;
     window_words().map_err(|d| format!("words of kinds 7 and 8: {d}"))?;
-    let (document, windows) = (document.len(), windows.len());
+    let (document, windows, longest) = (document.len(), windows.len(), longest()?);
     Ok(format!(
         "whiteboard table: {document} cases and the examples under it, all as in the document\n\
-         kinds 7 and 8: {windows} cases, a recheck, limits and words, all as worked by hand"
+         kinds 7 and 8: {windows} cases, a recheck, limits and words, all as worked by hand\n\
+         longest windows: {longest} cases, lists, rechecks, limits and words, all as worked by hand"
     ))
 }

@@ -1,7 +1,7 @@
-//! The situations of kinds 7 and 8 (§4 of document 02) that every run has to meet: those of a window, of an open word and of
-//! a configuration.
+//! The situations of kinds 7 and 8 (§4 of document 02) and of the longest windows (§5) that every run has to meet: those of
+//! a window, of an open word and of a configuration.
 
-use crate::rules::{self, Config};
+use crate::rules::{self, Config, LONGEST_WINDOW};
 use crate::tally::Tally;
 
 /// A window of a checked trace: from its accepted trigger s to s+max, or to where a reset or the end of the trace cuts it.
@@ -12,6 +12,8 @@ pub struct Window<'a> {
     s: usize,
     /// The first cycle behind it.
     end: usize,
+    /// What P is compared with.
+    due: Option<u32>,
 }
 
 pub struct Situation {
@@ -32,11 +34,23 @@ const fn stability(name: &'static str, is_met: fn(&Window) -> bool) -> Situation
     Situation { kinds: &[8], name, is_met }
 }
 
-pub const SITUATIONS: [Situation; 24] = [
+/// The kinds whose n is the length of a window.
+pub const KINDS: [u8; 5] = [3, 4, 5, 7, 8];
+
+pub const LONGEST_CLOSED: &str = "window of 65,535 cycles closed";
+pub const LONGEST_FAILED: &str = "window of 65,535 cycles failed in its last cycle";
+pub const LONGEST_PASSED: &str = "window of 65,535 cycles closed, its last cycle not failed";
+pub const LONGEST_RECHECK: &str = "recheck, true record, edit of cycle 0, e = N = 65,536";
+pub const LONGEST_LIST: &str = "failures, at least 65,535 entries";
+
+/// The situations of the longest window. They come up on a schedule, so every one of the kinds has to meet each so many times.
+const LONGEST: [&str; 5] = [LONGEST_CLOSED, LONGEST_FAILED, LONGEST_PASSED, LONGEST_RECHECK, LONGEST_LIST];
+const LEAST_LONGEST: u64 = 3;
+
+pub const SITUATIONS: [Situation; 23] = [
     both("opened and closed in one cycle, max 0", |w| w.max() == 0),
     both("closed, min 0, max above 0", |w| w.is_closed() && w.min() == 0 && w.max() > 0),
     both("closed, min = max above 0", |w| w.is_closed() && w.min() == w.max() && w.max() > 0),
-    both("closed after 1,024 cycles", |w| w.is_closed() && w.max() == 1024),
     both("closed with enable 0", |w| w.is_closed() && !w.enable(w.end - 1)),
     both("ended by a reset", |w| w.is_reset()),
     both("ended by a reset with enable 0", |w| w.is_reset() && !w.enable(w.end)),
@@ -56,8 +70,14 @@ pub const SITUATIONS: [Situation; 24] = [
     stability("failed, reference of s", |w| w.min() == 0 && w.has_failed()),
     stability("reference later than s+min", |w| w.enabled().next().is_some_and(|t| t > w.s + w.min())),
     stability("closed without a reference", |w| w.is_closed() && w.enabled().next().is_none()),
-    stability("reference with its 32nd bit 1", |w| w.due().is_some_and(|r| r >> 31 == 1)),
+    stability("reference with its 32nd bit 1", |w| w.due.is_some_and(|r| r >> 31 == 1)),
 ];
+
+/// Every situation of a window with each of its kinds, and how many times it has to be met.
+pub fn all_situations() -> impl Iterator<Item = (u8, &'static str, u64)> {
+    let of_windows = SITUATIONS.iter().flat_map(|one| one.kinds.iter().map(move |kind| (*kind, one.name, 1)));
+    of_windows.chain(LONGEST.iter().flat_map(|name| KINDS.map(|kind| (kind, *name, LEAST_LONGEST))))
+}
 
 impl Window<'_> {
     fn min(&self) -> usize {
@@ -118,8 +138,7 @@ impl Window<'_> {
         self.enabled().skip(usize::from(self.config.kind == 8))
     }
 
-    /// What P is compared with.
-    fn due(&self) -> Option<u32> {
+    fn find_due(&self) -> Option<u32> {
         if self.config.kind == 7 {
             return Some(self.config.value);
         }
@@ -127,7 +146,7 @@ impl Window<'_> {
     }
 
     fn is_wrong(&self, t: usize) -> bool {
-        self.due().is_some_and(|due| due != self.config.p.value(self.trace[4 * t + 1]))
+        self.due.is_some_and(|due| due != self.config.p.value(self.trace[4 * t + 1]))
     }
 }
 
@@ -136,7 +155,9 @@ fn windows<'a>(config: Config, trace: &'a [u32], rows: &'a [u32]) -> Vec<Window<
     for s in (0..rows.len()).filter(|&s| rows[s] & 4 != 0) {
         let last = rows.len().min(s + config.n as usize + 1);
         let end = (s + 1..last).find(|&t| trace[4 * t] & 1 == 0).unwrap_or(last);
-        windows.push(Window { config, trace, rows, s, end });
+        let mut window = Window { config, trace, rows, s, end, due: None };
+        window.due = window.find_due();
+        windows.push(window);
     }
     windows
 }
@@ -152,9 +173,21 @@ pub fn tally_windows(tally: &mut Tally, config: Config, trace: &[u32], rows: &[u
     }
 }
 
+/// The longest windows of a checked trace: mark 8 stands in the last cycle of a window, and mark 1 there is its failure.
+pub fn tally_longest(tally: &mut Tally, config: Config, rows: &[u32]) {
+    if !config.has_window() {
+        return;
+    }
+    let is_met = |marks: u32| config.n == LONGEST_WINDOW && rows.iter().any(|row| row & 9 == marks);
+    tally.window(config.kind, LONGEST_FAILED, is_met(9));
+    tally.window(config.kind, LONGEST_PASSED, is_met(8));
+    tally.window(config.kind, LONGEST_CLOSED, is_met(9) || is_met(8));
+}
+
 /// The word of a step, of an open count or before a recheck, at the limits of the possible words and just beyond them.
 pub fn tally_word(tally: &mut Tally, config: Config, word: u64) {
     let (min, max) = (u64::from(config.min), u64::from(config.n));
+    tally_longest_word(tally, config, word);
     match (config.kind, rules::reference_in(word)) {
         (7, _) => {
             tally.situation("value word, max left", word == max && max > 0);
@@ -178,6 +211,24 @@ pub fn tally_word(tally: &mut Tally, config: Config, word: u64) {
     }
 }
 
+/// A word with 65,535 cycles left, or 65,536, of a window of that length.
+fn tally_longest_word(tally: &mut Tally, config: Config, word: u64) {
+    let longest = u64::from(LONGEST_WINDOW);
+    if !config.has_window() || config.n != LONGEST_WINDOW {
+        return;
+    }
+    let held = rules::reference_in(word).is_some();
+    if config.kind == 8 {
+        let held_longest = held && config.possible(word) && rules::cycles_left_in(word) == longest;
+        tally.situation("stability word, reference and 65,535 left", held_longest);
+        tally.situation("stability word, 65,535 left and no reference", config.possible(word) && word == longest);
+        tally.situation("stability word refused, 65,536 left", word == longest + 1);
+    } else {
+        tally.situation("time or value word, 65,535 left", word == longest);
+        tally.situation("time or value word refused, 65,536 left", word == longest + 1);
+    }
+}
+
 /// A configuration that is refused for one number alone: with another it is right.
 pub fn tally_config(tally: &mut Tally, config: Config) {
     let after_trigger = config.is_after_trigger();
@@ -186,8 +237,14 @@ pub fn tally_config(tally: &mut Tally, config: Config) {
     tally.situation("kind 9 refused", config.kind == 9);
     tally.situation("min refused, one above max", min && after_trigger && config.min == config.n + 1);
     tally.situation("min refused, kinds 0 to 6", min && !after_trigger);
-    let max = only(Config { n: 1024, ..config });
-    tally.situation("max refused, 1,025", max && after_trigger && config.n == 1025);
+    let n = only(Config { n: LONGEST_WINDOW, ..config }) && config.n == LONGEST_WINDOW + 1;
+    tally.situation("n refused, 65,536, kinds 3 to 5", n && config.is_time());
+    tally.situation("max refused, 65,536", n && after_trigger);
+    let accepted = |n: u32| config.n == n && config.refusal() == 0;
+    tally.situation("n accepted, 1,025, kinds 3 to 5", accepted(1025) && config.is_time());
+    tally.situation("n accepted, 65,535, kinds 3 to 5", accepted(LONGEST_WINDOW) && config.is_time());
+    tally.situation("max accepted, 1,025", accepted(1025) && after_trigger);
+    tally.situation("max accepted, 65,535", accepted(LONGEST_WINDOW) && after_trigger);
     let value = only(Config { value: 0, ..config });
     tally.situation("value refused, kinds 0 to 6", value && !after_trigger);
     tally.situation("value refused, kind 8", value && config.kind == 8);

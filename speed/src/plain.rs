@@ -32,6 +32,7 @@ const RESTARTED: u32 = 16;
 
 const MOST_CYCLES: usize = 65_536;
 const MOST_CHECKERS: usize = 64;
+const LONGEST_WINDOW: u32 = 65_535;
 
 /// A transition's open word is 0, or this plus the stored next state.
 const STORED: u64 = 1 << 32;
@@ -427,9 +428,9 @@ fn test_config(config: &Config) -> Result<(), u32> {
     let &Config { kind, n, p, q, r, min, value } = config;
     let n_fits = match kind {
         MOST_PIPE..=FIRST_NO_PIPE => (2..=32).contains(&n) && min == 0,
-        IGNORE_NEW_START..=ERROR_ON_NEW_START => (1..=1024).contains(&n) && min == 0,
+        IGNORE_NEW_START..=ERROR_ON_NEW_START => (1..=LONGEST_WINDOW).contains(&n) && min == 0,
         TRANSITION => n == 0 && min == 0,
-        VALUE | STABILITY => n <= 1024 && min <= n,
+        VALUE | STABILITY => n <= LONGEST_WINDOW && min <= n,
         _ => return Err(1),
     };
     if !n_fits {

@@ -119,9 +119,9 @@ pub fn limits_of_n() {
     report::line(b"kind 1, n 1:", refusal_of(checker(1, 1, 0)));
     report::line(b"kind 1, n 33:", refusal_of(checker(1, 33, 32)));
     report::line(b"kind 3, n 1:", refusal_of(checker(3, 1, 0)));
-    report::line(b"kind 3, n 1024:", refusal_of(checker(3, 1024, 0)));
+    report::line(b"kind 3, n 65535:", refusal_of(checker(3, 65535, 0)));
     report::line(b"kind 3, n 0:", refusal_of(checker(3, 0, 0)));
-    report::line(b"kind 3, n 1025:", refusal_of(checker(3, 1025, 0)));
+    report::line(b"kind 3, n 65536:", refusal_of(checker(3, 65536, 0)));
 }
 
 pub fn empty_trace() {

@@ -149,18 +149,18 @@ pub fn most_attempts() {
 
 // Start 1 and test 0 in every cycle: a failure and an illegal start in each cycle of a window.
 pub fn most_entries() {
-    report::text(b"65536 cycles, kind 5, n 1024, start 1 and test 0\n");
+    report::text(b"65536 cycles, kind 5, n 65535, start 1 and test 0\n");
     let c = two_ports(
         5,
-        1024,
+        65535,
         Range { left: 0, right: 0 },
         Range { left: 1, right: 1 },
     );
     let trace = [1u32; 262144];
-    let mut list = [0u32; 392832];
+    let mut list = [0u32; 393210];
     let r = failures(c, &trace, &mut list);
     report::line(b"refusal", r.refusal as u64);
     report::line(b"count", r.count as u64);
-    let last = [list[392829], list[392830], list[392831]];
+    let last = [list[393207], list[393208], list[393209]];
     report::numbers(b"last entry", &last);
 }

@@ -1,4 +1,4 @@
--- A checker's configuration and when it is refused, from document 01, "Seven checkers" and "Refusal numbers", and document 02, §4. Assumes nothing.
+-- A checker's configuration and when it is refused, from document 01, "Seven checkers" and "Refusal numbers", and document 02, §4 and §5. Assumes nothing.
 use Prim.Native.Nat.{ℕ, _^_}
 use mathlib.Core.Path.{_≡_}
 use mathlib.Core.Bool.{Bool, true, false, _&&_, cond}
@@ -20,7 +20,8 @@ unfoldable pub family : ℕ → Family
 family kind =
     pick (leb kind 2) sequence (pick (leb kind 5) time (pick (leb kind 6) transition (pick (leb kind 7) value (pick (leb kind 8) stability none))))
 
--- "n = num_cks": "2 to 32" events, a window of "1 to 1,024" cycles, "must be 0"; and "n is max", of which "above 1,024" is refused
+-- "n = num_cks": "2 to 32" events, a window of 1 to 65,535 cycles, "must be 0"; and "n is max". §5: "Raise n for kinds 3 to 5 from 1,024 to 65,535, and max in
+-- §4 too. 65,536 is refusal 2."
 abbrev pub minEvents : ℕ
 minEvents = 2
 
@@ -31,7 +32,7 @@ abbrev pub minWindow : ℕ
 minWindow = 1
 
 abbrev pub maxWindow : ℕ
-maxWindow = 1024
+maxWindow = 65535
 
 unfoldable pub limitsOf : Family → ℕ → Bool
 limitsOf sequence n = leb minEvents n && leb n maxEvents

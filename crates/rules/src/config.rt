@@ -8,7 +8,7 @@ pub const MAX_EVENTS: u32 = 32;
 
 pub const MIN_WINDOW: u32 = 1;
 
-pub const MAX_WINDOW: u32 = 1024;
+pub const MAX_WINDOW: u32 = 65535;
 
 // The highest kind.
 pub const MAX_KIND: u8 = 8;
