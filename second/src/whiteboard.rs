@@ -205,16 +205,31 @@ fn examples() -> Outcome {
     check_recheck(&edit, &old, &[0, 4, 0, 8, 4, 0], &[0, 2, 1, 0, 2, 1], [6, 0, 0, 0, -1, 0])
 }
 
+/// Configurations with the refusal that is due, each with a trace of no cycles.
+fn check_limits(limits: impl IntoIterator<Item = (Config, u32)>) -> Outcome {
+    for (config, due) in limits {
+        is(&format!("{config:?} by the library"), host::check(config, &[], &mut [], &mut [])?, due)?;
+        is(&format!("{config:?} by the rules"), config.refusal(), due)?;
+    }
+    Ok(())
+}
+
+/// Open words with the answer of open count that is due.
+fn check_counts(counts: impl IntoIterator<Item = (Config, u64, u32)>) -> Outcome {
+    for (config, word, due) in counts {
+        is(&format!("{config:?}, word {word:#x} by the library"), host::open_count(config, word), due)?;
+        is(&format!("{config:?}, word {word:#x} by the rules"), rules::open_count(config, word), due)?;
+    }
+    Ok(())
+}
+
 /// "Limits: kind 1 takes n 2 and 32, not 1 or 33; kind 3 takes 1 and 1,024, not 0 or 1,025; N 65,536 passes and 65,537 is
 /// refused; a=b=N=0 gives e=0." By §5 kind 3 takes 1,025 as well; `longest_limits` has its new limit.
 fn limits() -> Outcome {
     let at = |n: u32| sequence(1, n, (n - 1).min(31) as u8, 0);
     let limits = [(at(2), 0), (at(32), 0), (at(1), 2), (at(33), 2)];
     let times = [(time(3, 1), 0), (time(3, 1024), 0), (time(3, 0), 2), (time(3, 1025), 0)];
-    for (config, due) in limits.into_iter().chain(times) {
-        is(&format!("{config:?} by the library"), host::check(config, &[], &mut [], &mut [])?, due)?;
-        is(&format!("{config:?} by the rules"), config.refusal(), due)?;
-    }
+    check_limits(limits.into_iter().chain(times))?;
     for (cycles, due) in [(65_536, 0), (65_537, 4)] {
         let trace = vec![1; 4 * cycles];
         let (mut rows, mut words) = (vec![0; cycles], vec![0; cycles]);
@@ -277,11 +292,7 @@ fn window_limits() -> Outcome {
         (Config { q: Range { left: 1, right: 0 }, ..stability(0, 3) }, 3),
         (Config { r: wire(1), ..stability(0, 3) }, 3),
     ];
-    for (config, due) in limits {
-        is(&format!("{config:?} by the library"), host::check(config, &[], &mut [], &mut [])?, due)?;
-        is(&format!("{config:?} by the rules"), config.refusal(), due)?;
-    }
-    Ok(())
+    check_limits(limits)
 }
 
 /// Words of windows at and beyond each limit, with the answer of open count that is due: 1792 is refusal 7.
@@ -303,11 +314,7 @@ fn window_words() -> Outcome {
         (stability(3, 3), HELD + 1, 1792),
         (value(1, 3, 5), HELD + (5 << 16) + 1, 1792),
     ];
-    for (config, word, due) in counts {
-        is(&format!("{config:?}, word {word:#x} by the library"), host::open_count(config, word), due)?;
-        is(&format!("{config:?}, word {word:#x} by the rules"), rules::open_count(config, word), due)?;
-    }
-    Ok(())
+    check_counts(counts)
 }
 
 /// "exact at zero and at plus or minus 65,536": rows that all have every bit become 0, and rows that are 0 become 4.
@@ -515,11 +522,7 @@ fn longest_limits() -> Outcome {
     for (min, n, due) in [(65_535, 65_535, 0), (65_536, 65_535, 2), (65_536, 65_536, 2), (65_535, 65_534, 2)] {
         limits.extend([(value(min, n, 5), due), (stability(min, n), due)]);
     }
-    for (config, due) in limits {
-        is(&format!("{config:?} by the library"), host::check(config, &[], &mut [], &mut [])?, due)?;
-        is(&format!("{config:?} by the rules"), config.refusal(), due)?;
-    }
-    Ok(())
+    check_limits(limits)
 }
 
 /// Words of windows with n or max 65,535. With a reference, 65,536 cycles left would be one more in the reference and none
@@ -543,11 +546,7 @@ fn longest_words() -> Outcome {
     for config in [time(3, 65_535), time(4, 65_535), time(5, 65_535), value(0, 65_535, 5)] {
         counts.extend([(config, 65_535, 1), (config, 65_536, 1792)]);
     }
-    for (config, word, due) in counts {
-        is(&format!("{config:?}, word {word:#x} by the library"), host::open_count(config, word), due)?;
-        is(&format!("{config:?}, word {word:#x} by the rules"), rules::open_count(config, word), due)?;
-    }
-    Ok(())
+    check_counts(counts)
 }
 
 /// The longest windows; the answer is how many cases there are in their table.
