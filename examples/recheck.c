@@ -1,7 +1,8 @@
 /*
  * A full check, an edit and a recheck, as a viewer does them: case A of the whiteboard table, a sequence of four events on
- * P [3:0], with cycle 2 changed from 10 to 2. Then a call that is refused. Last, case N below the table: the value 6 is
- * expected on P [0:2] from 1 to 3 cycles after a trigger, and the failures are listed.
+ * P [3:0], with cycle 2 changed from 10 to 2. Then a call that is refused. Then case N below the table: the value 6 is
+ * expected on P [0:2] from 1 to 3 cycles after a trigger, and the failures are listed. Last, case E made fatal: it stops in
+ * cycle 2, and an edit of that cycle lets it go on to the next failure.
  *
  *     sh build.sh          builds and runs this example
  */
@@ -12,18 +13,21 @@
 
 #define CYCLES 6
 
-/* kind 1, n 4, P [3:0]; Q and R are not used, nor min and the expected value */
-#define SEQUENCE 1, 4, 3, 0, 0, 0, 0, 0, 0, 0
+/* kind 1, n 4, P [3:0]; Q and R are not used, nor min and the expected value; it goes on after a failure */
+#define SEQUENCE 1, 4, 3, 0, 0, 0, 0, 0, 0, 0, SELVEDGEON_GOES_ON
 
 /* kind 7, max 3, P [0:2], Q [0:0]; R is not used; min 1, value 6 */
-#define VALUE 7, 3, 0, 2, 0, 0, 0, 0, 1, 6
+#define VALUE 7, 3, 0, 2, 0, 0, 0, 0, 1, 6, SELVEDGEON_GOES_ON
+
+/* kind 1, n 3, P [2:0], fatal */
+#define FATAL_SEQUENCE 1, 3, 2, 0, 0, 0, 0, 0, 0, 0, SELVEDGEON_FATAL
 
 static const char *refusal_in_words(uint32_t refusal)
 {
     switch (refusal) {
     case SELVEDGEON_DONE: return "done";
     case SELVEDGEON_BAD_KIND: return "the kind is above 8";
-    case SELVEDGEON_BAD_N: return "n or min is outside its limits";
+    case SELVEDGEON_BAD_N: return "n, min or the severity is outside its limits";
     case SELVEDGEON_BAD_PORTS: return "a port or the expected value does not fit the kind";
     case SELVEDGEON_BAD_TRACE: return "the trace is no multiple of 4 words, or has more than 65,536 cycles";
     case SELVEDGEON_BAD_LENGTH: return "a lent slice has not the length that is due";
@@ -52,9 +56,20 @@ static void print_record(const uint32_t *trace, const uint32_t *rows, const uint
 {
     printf("  cycle  P   open word  marks\n");
     for (int t = 0; t < CYCLES; t++) {
-        printf("  %5d  %2" PRIu32 "  %9" PRIu64 "  ", t, trace[4 * t + 1], words[t]);
+        printf("  %5d  %2" PRIu32 "  ", t, trace[4 * t + 1]);
+        if (words[t] == SELVEDGEON_STOPPED)
+            printf("  stopped  ");
+        else
+            printf("%9" PRIu64 "  ", words[t]);
         print_marks(rows[t]);
     }
+}
+
+static void print_changes(const int32_t *answer)
+{
+    printf("  stopped before cycle %" PRId32 "; changes of marks 1, 2, 4, 8, 16: %" PRId32 " %" PRId32 " %" PRId32
+           " %" PRId32 " %" PRId32 "\n",
+           answer[0], answer[1], answer[2], answer[3], answer[4], answer[5]);
 }
 
 /* the value check of a trace with one trigger, and where it failed */
@@ -79,6 +94,30 @@ static void check_value(void)
         printf("  failed in cycle %" PRIu32 ", trigger in cycle %" PRIu32 "\n", list[3 * i], list[3 * i + 2]);
 }
 
+/* a fatal checker, and an edit that takes its failure away */
+static void check_fatal(void)
+{
+    const uint32_t samples[CYCLES] = {4, 6, 5, 4, 4, 4};
+    uint32_t trace[4 * CYCLES] = {0};
+    uint32_t rows[CYCLES];
+    uint64_t words[CYCLES];
+    int32_t answer[6];
+
+    for (int t = 0; t < CYCLES; t++) {
+        trace[4 * t] = 1; /* reset_n */
+        trace[4 * t + 1] = samples[t];
+    }
+    uint32_t refusal = selvedgeon_check(FATAL_SEQUENCE, trace, 4 * CYCLES, rows, CYCLES, words, CYCLES);
+    printf("fatal, full check: %s\n", refusal_in_words(refusal));
+    print_record(trace, rows, words);
+
+    trace[4 * 2 + 1] = 7;
+    refusal = selvedgeon_recheck(FATAL_SEQUENCE, trace, 4 * CYCLES, rows, CYCLES, words, CYCLES, 2, 3, answer, 6);
+    printf("cycle 2 becomes 7, recheck of cycles 2 to 2: %s\n", refusal_in_words(refusal));
+    print_record(trace, rows, words);
+    print_changes(answer);
+}
+
 int main(void)
 {
     const uint32_t samples[CYCLES] = {8, 4, 10, 5, 2, 1};
@@ -99,13 +138,12 @@ int main(void)
     refusal = selvedgeon_recheck(SEQUENCE, trace, 4 * CYCLES, rows, CYCLES, words, CYCLES, 2, 3, answer, 6);
     printf("cycle 2 becomes 2, recheck of cycles 2 to 2: %s\n", refusal_in_words(refusal));
     print_record(trace, rows, words);
-    printf("  stopped before cycle %" PRId32 "; changes of marks 1, 2, 4, 8, 16: %" PRId32 " %" PRId32 " %" PRId32
-           " %" PRId32 " %" PRId32 "\n",
-           answer[0], answer[1], answer[2], answer[3], answer[4], answer[5]);
+    print_changes(answer);
 
     refusal = selvedgeon_recheck(SEQUENCE, trace, 4 * CYCLES, rows, CYCLES, words, CYCLES, 4, 3, answer, 6);
     printf("recheck from 4 to 3: refused, %s\n", refusal_in_words(refusal));
 
     check_value();
+    check_fatal();
     return 0;
 }

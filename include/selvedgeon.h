@@ -5,8 +5,8 @@
  * kinds 7 and 8 bit 1 is enable; bit w of a port's word is its wire w. A port is declared by a range [left:right] of wire
  * numbers 0 to 31, and its value is read in that order: the left wire is the most significant, and the right wire is bit 0.
  *
- * A checker is configured by ten numbers: its kind, n (num_cks; for kinds 7 and 8 max), the left and right end of P, Q and
- * R, min, and the expected value.
+ * A checker is configured by eleven numbers: its kind, n (num_cks; for kinds 7 and 8 max), the left and right end of P, Q
+ * and R, min, the expected value, and its severity: 0 goes on after a failure, 1 is fatal.
  *
  *     kind                          n          P          Q            R
  *     0  sequence, most-pipe        2..32      n events   unused       unused
@@ -28,8 +28,12 @@
  * counts, but is not tested, and no trigger is seen in it. A failure does not end the window, and a trigger in s+1 to s+max
  * is ignored. Mark 4 is set at s, mark 8 at s+max.
  *
+ * A fatal checker stops at the first cycle with mark 1 or 2. That cycle has all its marks. Its open word and all later ones
+ * are SELVEDGEON_STOPPED, and all later rows are 0, also behind a reset. The failure list has the entries up to that cycle.
+ *
  * A record is N rows of 32 bits and N open words of 64 bits. A row is the sum of its cycle's marks. An open word says which
- * checks are unfinished after its cycle; a word is possible for a configuration where some trace leaves it.
+ * checks are unfinished after its cycle; a word is possible for a configuration where some trace leaves it. So
+ * SELVEDGEON_STOPPED is possible for each fatal checker that can fail: all but kind 8 with min equal to max.
  *
  * Every call answers every input. A refused call writes nothing. A pointer is not read where its length is 0. A lent
  * buffer that is written must not overlap another buffer of the same call.
@@ -53,11 +57,21 @@ enum selvedgeon_mark {
     SELVEDGEON_RESTARTED = 16 /* a window reset by a new start (kind 4), always with mark 4: row 20 */
 };
 
+/* the open word of a fatal checker that has failed */
+#define SELVEDGEON_STOPPED (UINT64_C(1) << 63)
+
+/* the severities */
+enum selvedgeon_severity {
+    SELVEDGEON_GOES_ON = 0,
+    SELVEDGEON_FATAL = 1
+};
+
 /* the refusals: 0 is done. 9 is tested first, then each where it applies, by number */
 enum selvedgeon_refusal {
     SELVEDGEON_DONE = 0,
     SELVEDGEON_BAD_KIND = 1,      /* the kind is above 8 */
-    SELVEDGEON_BAD_N = 2,         /* n is outside its limits, min above max, or min not 0 where it is unused */
+    SELVEDGEON_BAD_N = 2,         /* n is outside its limits, min above max, min not 0 where it is unused, or the severity
+                                     above 1 */
     SELVEDGEON_BAD_PORTS = 3,     /* an index above 31, a wrong width, an unused port that is not 0:0, or an expected value
                                      that does not fit P or is not 0 where it is unused */
     SELVEDGEON_BAD_TRACE = 4,     /* the trace is no multiple of 4 words, or has more than 65,536 cycles */
@@ -82,6 +96,7 @@ struct selvedgeon_config {
     struct selvedgeon_range r;
     uint32_t min;
     uint32_t value;
+    uint8_t severity;
 };
 
 /*
@@ -91,8 +106,8 @@ struct selvedgeon_config {
  * Refusals: 1, 2, 3; 5 where word_len is not 8; 7.
  */
 uint32_t selvedgeon_step(uint8_t kind, uint32_t n, uint8_t p_left, uint8_t p_right, uint8_t q_left, uint8_t q_right,
-                         uint8_t r_left, uint8_t r_right, uint32_t min, uint32_t value, uint32_t reset, uint32_t p,
-                         uint32_t q, uint32_t r, uint8_t *word, size_t word_len);
+                         uint8_t r_left, uint8_t r_right, uint32_t min, uint32_t value, uint8_t severity, uint32_t reset,
+                         uint32_t p, uint32_t q, uint32_t r, uint8_t *word, size_t word_len);
 
 /*
  * The full check of a trace of N cycles.
@@ -101,8 +116,9 @@ uint32_t selvedgeon_step(uint8_t kind, uint32_t n, uint8_t p_left, uint8_t p_rig
  * Refusals: 1, 2, 3, 4; 5 where rows_len or words_len is not N.
  */
 uint32_t selvedgeon_check(uint8_t kind, uint32_t n, uint8_t p_left, uint8_t p_right, uint8_t q_left, uint8_t q_right,
-                          uint8_t r_left, uint8_t r_right, uint32_t min, uint32_t value, const uint32_t *trace,
-                          size_t trace_len, uint32_t *rows, size_t rows_len, uint64_t *words, size_t words_len);
+                          uint8_t r_left, uint8_t r_right, uint32_t min, uint32_t value, uint8_t severity,
+                          const uint32_t *trace, size_t trace_len, uint32_t *rows, size_t rows_len, uint64_t *words,
+                          size_t words_len);
 
 /*
  * The recheck of a record after an edit of the trace in cycles a to b-1: rows and words are those of the old trace, the
@@ -113,9 +129,9 @@ uint32_t selvedgeon_check(uint8_t kind, uint32_t n, uint8_t p_left, uint8_t p_ri
  * Refusals: 1, 2, 3, 4; 5 where rows_len or words_len is not N or answer_len is not 6; 6; 7 for the word before cycle a.
  */
 uint32_t selvedgeon_recheck(uint8_t kind, uint32_t n, uint8_t p_left, uint8_t p_right, uint8_t q_left, uint8_t q_right,
-                            uint8_t r_left, uint8_t r_right, uint32_t min, uint32_t value, const uint32_t *trace,
-                            size_t trace_len, uint32_t *rows, size_t rows_len, uint64_t *words, size_t words_len,
-                            uint64_t a, uint64_t b, int32_t *answer, size_t answer_len);
+                            uint8_t r_left, uint8_t r_right, uint32_t min, uint32_t value, uint8_t severity,
+                            const uint32_t *trace, size_t trace_len, uint32_t *rows, size_t rows_len, uint64_t *words,
+                            size_t words_len, uint64_t a, uint64_t b, int32_t *answer, size_t answer_len);
 
 /*
  * How many rows have each mark; other bits of a row are ignored.
@@ -133,17 +149,17 @@ uint32_t selvedgeon_totals(const uint32_t *rows, size_t rows_len, uint32_t *coun
  * Refusals: 1, 2, 3, 4; 8 where the list is too short.
  */
 uint64_t selvedgeon_failures(uint8_t kind, uint32_t n, uint8_t p_left, uint8_t p_right, uint8_t q_left, uint8_t q_right,
-                             uint8_t r_left, uint8_t r_right, uint32_t min, uint32_t value, const uint32_t *trace,
-                             size_t trace_len, uint32_t *list, size_t list_len);
+                             uint8_t r_left, uint8_t r_right, uint32_t min, uint32_t value, uint8_t severity,
+                             const uint32_t *trace, size_t trace_len, uint32_t *list, size_t list_len);
 
 /*
- * How many checks an open word says are unfinished.
+ * How many checks an open word says are unfinished: 0 for SELVEDGEON_STOPPED.
  * Answers 256 times the refusal plus the count.
  * Writes nothing.
  * Refusals: 1, 2, 3, 7.
  */
-uint32_t selvedgeon_open_count(uint8_t kind, uint32_t n, uint8_t p_left, uint8_t p_right, uint8_t q_left,
-                               uint8_t q_right, uint8_t r_left, uint8_t r_right, uint32_t min, uint32_t value,
+uint32_t selvedgeon_open_count(uint8_t kind, uint32_t n, uint8_t p_left, uint8_t p_right, uint8_t q_left, uint8_t q_right,
+                               uint8_t r_left, uint8_t r_right, uint32_t min, uint32_t value, uint8_t severity,
                                uint64_t word);
 
 /*

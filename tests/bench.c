@@ -40,14 +40,15 @@ static uint32_t run(struct bench *b, size_t checkers)
 static void fill(struct bench *b)
 {
     static const struct selvedgeon_config kinds[KINDS] = {
-        {0, 4, {3, 0}, {0, 0}, {0, 0}, 0, 0}, {1, 4, {0, 3}, {0, 0}, {0, 0}, 0, 0}, {2, 3, {2, 0}, {0, 0}, {0, 0}, 0, 0},
-        {3, 3, {0, 0}, {1, 1}, {0, 0}, 0, 0}, {4, 3, {0, 0}, {1, 1}, {0, 0}, 0, 0}, {5, 3, {0, 0}, {1, 1}, {0, 0}, 0, 0},
-        {6, 0, {2, 0}, {2, 0}, {2, 0}, 0, 0}, {7, 3, {0, 2}, {1, 1}, {0, 0}, 1, 6}, {8, 4, {2, 0}, {1, 1}, {0, 0}, 2, 0},
+        {0, 4, {3, 0}, {0, 0}, {0, 0}, 0, 0, 0}, {1, 4, {0, 3}, {0, 0}, {0, 0}, 0, 0, 0}, {2, 3, {2, 0}, {0, 0}, {0, 0}, 0, 0, 0},
+        {3, 3, {0, 0}, {1, 1}, {0, 0}, 0, 0, 0}, {4, 3, {0, 0}, {1, 1}, {0, 0}, 0, 0, 0}, {5, 3, {0, 0}, {1, 1}, {0, 0}, 0, 0, 0},
+        {6, 0, {2, 0}, {2, 0}, {2, 0}, 0, 0, 0}, {7, 3, {0, 2}, {1, 1}, {0, 0}, 1, 6, 0}, {8, 4, {2, 0}, {1, 1}, {0, 0}, 2, 0, 0},
     };
     static const uint64_t words[KINDS] = {5, 3, 2, 2, 1, 3, UINT64_C(0x100000004), 2, UINT64_C(0x1000000060002)};
     memset(b, 0, sizeof *b);
     for (uint32_t k = 0; k < MOST; k++) {
         b->table[k] = kinds[k % KINDS];
+        b->table[k].severity = k % 4 == 3; /* some are fatal */
         b->words[k] = words[k % KINDS];
         b->rows[k] = GUARD;
         b->frames[4 * k] = k % 11 == 10 ? 2 : k % 5 == 4 ? 1 : 3; /* some checkers are in reset, and some not enabled */
@@ -73,7 +74,8 @@ static void expect_stepped(struct bench *b, size_t checkers)
         for (int i = 0; i < 8; i++)
             word[i] = (uint8_t)(before.words[k] >> 8 * i);
         uint32_t row = selvedgeon_step(c->kind, c->n, c->p.left, c->p.right, c->q.left, c->q.right, c->r.left,
-                                       c->r.right, c->min, c->value, frame[0], frame[1], frame[2], frame[3], word, 8);
+                                       c->r.right, c->min, c->value, c->severity, frame[0], frame[1], frame[2], frame[3],
+                                       word, 8);
         for (int i = 0; i < 8; i++)
             next |= (uint64_t)word[i] << 8 * i;
         expect("row", b->rows[k], row);
@@ -110,6 +112,10 @@ static void refusals(void)
     expect_stepped(&b, 40);
 
     fill(&b);
+    b.words[62] = SELVEDGEON_STOPPED; /* it goes on */
+    memcpy(&before, &b, sizeof b);
+    expect_refused("stopped word of checker 62", &b, run(&b, 64), 7, 62, &before);
+    b.table[62].severity = SELVEDGEON_FATAL;
     b.words[63] = UINT64_MAX;
     memcpy(&before, &b, sizeof b);
     expect_refused("word of checker 63", &b, run(&b, 64), 7, 63, &before);
@@ -119,6 +125,9 @@ static void refusals(void)
     b.table[33].min = 1; /* kind 6 */
     memcpy(&before, &b, sizeof b);
     expect_refused("min of checker 33", &b, run(&b, 64), 2, 33, &before);
+    b.table[32].severity = 2;
+    memcpy(&before, &b, sizeof b);
+    expect_refused("severity of checker 32", &b, run(&b, 64), 2, 32, &before);
     b.table[31].n = 65536;
     memcpy(&before, &b, sizeof b);
     expect_refused("n of checker 31", &b, run(&b, 64), 2, 31, &before);
@@ -133,7 +142,7 @@ static void refusals(void)
 static void case_c(void)
 {
     static const uint32_t samples[6] = {8, 4, 10, 5, 2, 1}, rows[6] = {0, 0, 0, 4, 0, 5}, words[6] = {0, 0, 0, 1, 2, 1};
-    struct selvedgeon_config c = {1, 4, {0, 3}, {0, 0}, {0, 0}, 0, 0};
+    struct selvedgeon_config c = {1, 4, {0, 3}, {0, 0}, {0, 0}, 0, 0, 0};
     uint64_t word = 0;
     uint32_t row = GUARD;
     for (int t = 0; t < 6; t++) {

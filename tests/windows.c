@@ -17,14 +17,14 @@
 
 /* P [5:5], Q [9:9]: kinds 3 to 5 start by P and test Q; kinds 7 and 8 are triggered by Q and test P, from the trigger on */
 static const struct selvedgeon_config kinds[KINDS] = {
-    {3, LONGEST, {5, 5}, {9, 9}, {0, 0}, 0, 0}, {4, LONGEST, {5, 5}, {9, 9}, {0, 0}, 0, 0},
-    {5, LONGEST, {5, 5}, {9, 9}, {0, 0}, 0, 0}, {7, LONGEST, {5, 5}, {9, 9}, {0, 0}, 0, 1},
-    {8, LONGEST, {5, 5}, {9, 9}, {0, 0}, 0, 0},
+    {3, LONGEST, {5, 5}, {9, 9}, {0, 0}, 0, 0, 0}, {4, LONGEST, {5, 5}, {9, 9}, {0, 0}, 0, 0, 0},
+    {5, LONGEST, {5, 5}, {9, 9}, {0, 0}, 0, 0, 0}, {7, LONGEST, {5, 5}, {9, 9}, {0, 0}, 0, 1, 0},
+    {8, LONGEST, {5, 5}, {9, 9}, {0, 0}, 0, 0, 0},
 };
 
-/* the ten numbers of a configuration, with n in their place */
+/* the eleven numbers of a configuration, with n in their place */
 #define NUMBERS(c, n) \
-    (c).kind, n, (c).p.left, (c).p.right, (c).q.left, (c).q.right, (c).r.left, (c).r.right, (c).min, (c).value
+    (c).kind, n, (c).p.left, (c).p.right, (c).q.left, (c).q.right, (c).r.left, (c).r.right, (c).min, (c).value, (c).severity
 
 enum outcome { PASSES, FAILS_LAST, FAILS_EACH };
 
@@ -135,7 +135,7 @@ static void limits(struct selvedgeon_config c)
  */
 static void watched_for_50_000_cycles(void)
 {
-    const struct selvedgeon_config c = {3, 50000, {5, 5}, {9, 9}, {0, 0}, 0, 0};
+    const struct selvedgeon_config c = {3, 50000, {5, 5}, {9, 9}, {0, 0}, 0, 0, 0};
     static const uint32_t entries[6] = {20000, 1, 1000, 51000, 1, 1000};
     static const int32_t due[6] = {20001, -1, 0, 0, 0, 0};
     int32_t answer[6] = {0};

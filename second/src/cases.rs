@@ -1,9 +1,10 @@
 //! One random case of each call: the input is drawn, handed to the library and to the rules, and everything that either of
 //! them answered or left in a buffer is compared.
 
+use crate::fatal;
 use crate::generate::{self, Failing, Random};
 use crate::host;
-use crate::rules::{self, Config, Edit, Record, LONGEST_WINDOW, MOST_CYCLES};
+use crate::rules::{self, Config, Edit, Record, LONGEST_WINDOW, MOST_CYCLES, STOPPED};
 use crate::tally::{Call, Tally, NO_KIND};
 use crate::windows;
 use std::fmt::Debug;
@@ -11,15 +12,48 @@ use std::fmt::Debug;
 type Outcome = Result<(), String>;
 
 /// The greatest trace, the one that is just too long, the greatest with a word more, and the greatest with a window of the
-/// greatest length come up on a fixed schedule. The last are numbered: the kinds take turns, and then whether the last cycle
-/// of the window fails.
+/// greatest length come up on a fixed schedule.
 #[derive(Clone, Copy, PartialEq, Debug)]
 pub enum Size {
     Any,
-    Longest(u64),
+    Longest(Longest),
     Greatest,
     TooLong,
     WordMore,
+}
+
+/// The cases with a window of the greatest length are numbered: the severities take turns, then the kinds, and then whether
+/// the last cycle of the window fails.
+#[derive(Clone, Copy, PartialEq, Debug)]
+pub struct Longest {
+    severity: u8,
+    number: usize,
+}
+
+impl Longest {
+    pub fn new(number: usize) -> Longest {
+        Longest { severity: (number % 2) as u8, number: number / 2 }
+    }
+
+    fn config(self, random: &mut Random) -> Config {
+        let config = generate::longest_config(random, windows::KINDS[self.number % windows::KINDS.len()]);
+        Config { severity: self.severity, ..config }
+    }
+
+    /// How many turns each kind has had.
+    fn round(self) -> usize {
+        self.number / windows::KINDS.len()
+    }
+
+    /// A fatal checker stops in the last cycle or long before it: each of these has its turn too.
+    fn failing(self, random: &mut Random) -> Failing {
+        match (self.round() % 4, self.severity) {
+            (0 | 2, _) => Failing::NotLast,
+            (_, 0) => random.pick(&[Failing::Last, Failing::All]),
+            (1, _) => Failing::Last,
+            _ => Failing::All,
+        }
+    }
 }
 
 /// From this length on a window gets traces that are made for it: in others it would hardly ever close.
@@ -55,16 +89,21 @@ impl Case<'_> {
     }
 
     fn config(&mut self) -> Config {
-        let config = if let Size::Longest(number) = self.size {
-            generate::longest_config(&mut self.random, windows::KINDS[number as usize % windows::KINDS.len()])
+        let config = if let Size::Longest(longest) = self.size {
+            longest.config(&mut self.random)
         } else if self.fault(200) {
             generate::damaged_config(&mut self.random)
         } else {
             generate::good_config(&mut self.random)
         };
-        // Every call that takes a configuration tests it first.
-        windows::tally_config(self.tally, config);
+        self.tally_config(config);
         config
+    }
+
+    /// Every call that takes a configuration tests it first.
+    fn tally_config(&mut self, config: Config) {
+        windows::tally_config(self.tally, config);
+        fatal::tally_config(self.tally, config);
     }
 
     /// For a call that takes a word and no trace. That is quick, so a longest window can come up more often.
@@ -74,7 +113,7 @@ impl Case<'_> {
         }
         let kind = self.random.pick(&windows::KINDS);
         let config = generate::longest_config(&mut self.random, kind);
-        windows::tally_config(self.tally, config);
+        self.tally_config(config);
         config
     }
 
@@ -101,9 +140,8 @@ impl Case<'_> {
     fn trace(&mut self, config: Config, cycles: usize) -> Vec<u32> {
         let random = &mut self.random;
         let is_longer = config.has_window() && config.n >= LONG_WINDOW && cycles > config.n as usize;
-        if let Size::Longest(number) = self.size {
-            let fails = number as usize / windows::KINDS.len() % 2 == 1;
-            let failing = if fails { random.pick(&[Failing::Last, Failing::All]) } else { Failing::NotLast };
+        if let Size::Longest(longest) = self.size {
+            let failing = longest.failing(random);
             generate::window_trace(random, config, cycles, 0, failing)
         } else if config.refusal() == 0 && is_longer && random.chance(768) {
             generate::long_trace(random, config, cycles)
@@ -137,12 +175,15 @@ impl Case<'_> {
 pub fn step(case: &mut Case) -> Outcome {
     let config = case.config_for_word();
     let trace = generate::trace(&mut case.random, config, 1);
-    let frame = [trace[0], trace[1], trace[2], trace[3]];
+    let mut frame = [trace[0], trace[1], trace[2], trace[3]];
     let mut word = case.random.next();
     if config.refusal() == 0 {
-        word = any_word(&mut case.random, config, 150);
+        word = any_word(&mut case.random, config, 250);
         if case.random.chance(512) {
             word = generate::passing_word(config, frame, word);
+        }
+        if word == STOPPED && case.random.chance(200) {
+            frame[0] &= !1;
         }
     }
     let mut lent = word.to_le_bytes().to_vec();
@@ -160,11 +201,18 @@ pub fn step(case: &mut Case) -> Outcome {
     if due < 256 {
         case.tally.rows(Call::Step, config.kind, &[due]);
         tally_window_step(case.tally, config, word, frame, due);
+        fatal::tally_step(case.tally, config, word, frame, due);
     }
     if lent.len() == 8 && config.refusal() == 0 {
-        windows::tally_word(case.tally, config, word);
+        tally_word(case.tally, config, word);
     }
     Ok(())
+}
+
+/// The word of a step, of an open count or before a recheck.
+fn tally_word(tally: &mut Tally, config: Config, word: u64) {
+    windows::tally_word(tally, config, word);
+    fatal::tally_word(tally, config, word);
 }
 
 /// What a step of kind 7 or 8 did in an open window that it neither opened nor failed.
@@ -224,32 +272,56 @@ pub fn check(case: &mut Case) -> Outcome {
     let tally = &mut case.tally;
     tally.case(Call::Check, Some(config.kind), due);
     if due == 0 {
-        tally.rows(Call::Check, config.kind, &rows);
-        tally.situation("check of 0 cycles", cycles == 0);
-        tally.situation("check of 1 cycle", cycles == 1);
-        tally.situation("check of 65,536 cycles", cycles == MOST_CYCLES);
-        tally.situation("window restarted, row 20", rows.contains(&20));
-        let in_last_cycle = words.iter().zip(rows.iter().skip(1)).any(|pair| pair == (&1, &20));
-        tally.situation("window restarted in its last cycle, n above 1", config.n > 1 && in_last_cycle);
-        let twice_running = rows.windows(2).any(|pair| pair == [20, 20]);
-        tally.situation("window restarted twice running, n = 1", config.n == 1 && twice_running);
-        windows::tally_windows(tally, config, &trace, &rows);
-        windows::tally_longest(tally, config, &rows);
+        tally_check(tally, config, &trace, &Record { rows, words });
     }
     tally.situation("check refused 65,537 cycles", due == 4 && case.size == Size::TooLong);
     tally.situation("trace of 65,536 cycles and one word more", due == 4 && case.size == Size::WordMore);
     Ok(())
 }
 
+fn tally_check(tally: &mut Tally, config: Config, trace: &[u32], record: &Record) {
+    let Record { rows, words } = record;
+    tally.rows(Call::Check, config.kind, rows);
+    tally.situation("check of 0 cycles", rows.is_empty());
+    tally.situation("check of 1 cycle", rows.len() == 1);
+    tally.situation("check of 65,536 cycles", rows.len() == MOST_CYCLES);
+    tally.situation("window restarted, row 20", rows.contains(&20));
+    let in_last_cycle = words.iter().zip(rows.iter().skip(1)).any(|pair| pair == (&1, &20));
+    tally.situation("window restarted in its last cycle, n above 1", config.n > 1 && in_last_cycle);
+    let twice_running = rows.windows(2).any(|pair| pair == [20, 20]);
+    tally.situation("window restarted twice running, n = 1", config.n == 1 && twice_running);
+    // To a fatal checker the trace ends where it stops.
+    let stop = rows.len().min(words.iter().take_while(|word| **word != STOPPED).count() + 1);
+    windows::tally_windows(tally, config, &trace[..4 * stop], &rows[..stop]);
+    windows::tally_longest(tally, config, rows);
+    fatal::tally_check(tally, config, trace, rows);
+}
+
+/// An edit of the cycle in which a fatal checker stops, with a few cycles around it or all that follow; or of cycles before it
+/// or after it, or of none after it.
+fn range_around(random: &mut Random, stop: u64, last: u64) -> (u64, u64) {
+    let any = random.below(stop as usize + 1) as u64;
+    let near = stop.saturating_sub(random.below(3) as u64);
+    let behind = (stop + 1 + random.below(3) as u64).min(last);
+    let around = [(near, behind), (near, last), (any, behind)];
+    let before = [(any, stop), (any, stop.min(any + 2))];
+    let after = [(behind, last.min(behind + 2)), (behind, behind)];
+    let (around, before, after) = (random.pick(&around), random.pick(&before), random.pick(&after));
+    random.pick(&[around, around, around, before, before, after, after])
+}
+
 /// The cycles a to b−1 of an edit; sometimes a is above b, or b above N, also by more than 32 bits. That of a longest window
 /// is in cycle 0, so that the recheck has the whole window to go.
-fn edit_range(case: &mut Case, cycles: usize) -> (u64, u64) {
+fn edit_range(case: &mut Case, cycles: usize, stop: Option<usize>) -> (u64, u64) {
     if let Size::Longest(_) = case.size {
         return (0, 1);
     }
     let fault = case.fault(60);
     let random = &mut case.random;
     let last = cycles as u64;
+    if let (Some(stop), false, true) = (stop, fault, random.chance(768)) {
+        return range_around(random, stop as u64, last);
+    }
     let a = random.below(cycles + 1) as u64;
     let b = a + random.below(cycles + 1 - a as usize) as u64;
     let above_b = [(b + 1, a), (last + 1, last), (u64::MAX, a), (a + (1 << 32), b)];
@@ -269,10 +341,10 @@ fn edit_range(case: &mut Case, cycles: usize) -> (u64, u64) {
     }
 }
 
-/// A record that need not be true: a few entries damaged, all of them random, some words impossible, or that of another trace.
-fn false_record(random: &mut Random, config: Config, old: &[u32]) -> Record {
-    let cycles = old.len() / 4;
-    let mut record = rules::true_record(config, old);
+/// A true record made one that need not be: a few entries damaged, all of them random, some words impossible, or that of
+/// another trace; and in some, a fatal checker is stopped for a while, often to the cycle before a.
+fn false_record(random: &mut Random, config: Config, mut record: Record, a: u64) -> Record {
+    let cycles = record.rows.len();
     match random.below(4) {
         0 => {
             for _ in 0..random.below(4).min(cycles) {
@@ -290,6 +362,11 @@ fn false_record(random: &mut Random, config: Config, old: &[u32]) -> Record {
     }
     if random.chance(512) {
         record.rows = random.words(cycles);
+    }
+    if config.can_stop() && random.chance(512) {
+        let (any, before_a) = (random.below(cycles + 1), a.min(cycles as u64) as usize);
+        let end = random.pick(&[any, before_a]);
+        record.words[random.below(end + 1)..end].fill(STOPPED);
     }
     record
 }
@@ -314,22 +391,25 @@ pub fn recheck(case: &mut Case) -> Outcome {
     let config = case.config();
     let cycles = case.cycles(config.n);
     let old = case.trace(config, cycles);
-    let (a, b) = edit_range(case, cycles);
+    let is_good = config.refusal() == 0;
+    let mut kept = if is_good {
+        rules::true_record(config, &old)
+    } else {
+        Record { rows: case.random.words(cycles), words: case.random.long_words(cycles) }
+    };
+    let stop = kept.words.iter().position(|word| *word == STOPPED);
+    let (a, b) = edit_range(case, cycles, stop);
     let mut trace = old.clone();
     let in_cycle_0 = matches!(case.size, Size::Longest(_));
     if in_cycle_0 {
         trace = generate::edited_in_cycle_0(&mut case.random, config, &old);
-    } else if config.refusal() == 0 && a <= b && b <= cycles as u64 {
+    } else if is_good && a <= b && b <= cycles as u64 {
         trace = generate::edited(&mut case.random, config, &old, a as usize, b as usize);
     }
-    let is_true = in_cycle_0 || config.refusal() == 0 && case.random.chance(640);
-    let kept = if is_true {
-        rules::true_record(config, &old)
-    } else if config.refusal() == 0 {
-        false_record(&mut case.random, config, &old)
-    } else {
-        Record { rows: case.random.words(cycles), words: case.random.long_words(cycles) }
-    };
+    let is_true = in_cycle_0 || is_good && case.random.chance(640);
+    if is_good && !is_true {
+        kept = false_record(&mut case.random, config, kept, a);
+    }
     case.cut_trace(&mut trace);
     let mut lent = Lent { rows: kept.rows, words: kept.words, answer: vec![0; case.length(6)] };
     lent.answer.iter_mut().for_each(|entry| *entry = case.random.word() as i32);
@@ -359,7 +439,11 @@ fn compare_recheck(case: &mut Case, edit: &Edit, lent: Lent, is_true: bool) -> O
         step_claims(edit, &lent, &due).map_err(context)?;
     }
     tally_recheck(case.tally, edit, &lent, &due, refusal, is_true);
-    tally_window_recheck(case.tally, edit, &lent.words, &due.answer, refusal, is_true);
+    tally_word_recheck(case.tally, edit, &lent.words, &due.answer, refusal, is_true);
+    if refusal == 0 {
+        let (kept, new) = (Record { rows: lent.rows, words: lent.words }, Record { rows: due.rows, words: due.words });
+        fatal::tally_recheck(case.tally, edit, &kept, &new, due.answer[0] as usize, is_true);
+    }
     Ok(())
 }
 
@@ -406,7 +490,7 @@ fn tally_recheck(tally: &mut Tally, edit: &Edit, lent: &Lent, due: &Lent, refusa
     let beyond = lent.words[a..].iter().any(|word| !edit.config.possible(*word));
     tally.situation("recheck, impossible kept word after a", beyond);
     let ends = [e == edit.b, e > edit.b && e < last, e > edit.b && e == last];
-    if is_true {
+    if is_true && !edit.config.is_fatal() {
         tally.situation("recheck, true record, e = b", ends[0]);
         tally.situation("recheck, true record, e between b and N", ends[1]);
         tally.situation("recheck, true record, e = N above b", ends[2]);
@@ -414,28 +498,28 @@ fn tally_recheck(tally: &mut Tally, edit: &Edit, lent: &Lent, due: &Lent, refusa
         tally.situation("recheck, true record, e above b + n, kinds 2, 3, 5", unlimited);
         if edit.config.has_window() {
             let in_cycle_0 = a == 0 && b == 1;
-            tally.window(kind, windows::LONGEST_RECHECK, in_cycle_0 && e == last && last == MOST_CYCLES as u64);
+            tally.of_kind(kind, windows::LONGEST_RECHECK, in_cycle_0 && e == last && last == MOST_CYCLES as u64);
         }
-    } else {
+    } else if !is_true {
         tally.situation("recheck, false record, e = b", ends[0]);
         tally.situation("recheck, false record, e between b and N", ends[1]);
         tally.situation("recheck, false record, e = N above b", ends[2]);
     }
 }
 
-/// What a recheck of kind 7 or 8 went on from, and whether it ended later than a limit like that of kind 4 would let it.
-fn tally_window_recheck(tally: &mut Tally, edit: &Edit, kept: &[u64], answer: &[i32], refusal: u32, is_true: bool) {
-    if !edit.config.is_after_trigger() || !matches!(refusal, 0 | 7) {
+/// What a recheck went on from; and of kinds 7 and 8, whether it ended later than a limit like that of kind 4 would let it.
+fn tally_word_recheck(tally: &mut Tally, edit: &Edit, kept: &[u64], answer: &[i32], refusal: u32, is_true: bool) {
+    if !matches!(refusal, 0 | 7) {
         return;
     }
-    let before = if edit.a == 0 { 0 } else { kept[edit.a as usize - 1] };
-    windows::tally_word(tally, edit.config, before);
-    if refusal == 0 {
+    let before = rules::word_before(kept, edit.a as usize);
+    tally_word(tally, edit.config, before);
+    if refusal == 0 && edit.config.is_after_trigger() && before != STOPPED {
         let e = answer[0] as u64;
         let (held, goes_on) = (rules::reference_in(before).is_some(), edit.config.kind == 8 && e > edit.a);
         tally.situation("recheck goes on with a reference", goes_on && held);
         tally.situation("recheck goes on before the reference", goes_on && !held && before != 0);
-        let late = is_true && e > edit.b + u64::from(edit.config.n);
+        let late = is_true && !edit.config.is_fatal() && e > edit.b + u64::from(edit.config.n);
         tally.situation("recheck, true record, e above b + max, kinds 7 and 8", late);
     }
 }
@@ -467,8 +551,8 @@ pub fn totals(case: &mut Case) -> Outcome {
 /// long as that is what such a case is for.
 fn list_length(case: &mut Case, needed: usize) -> usize {
     let more = needed + 1 + case.random.below(40);
-    if let Size::Longest(number) = case.size {
-        let is_short = number as usize / windows::KINDS.len() % 3 == 2;
+    if let Size::Longest(longest) = case.size {
+        let is_short = longest.round() % 3 == 2;
         return if is_short { needed - 1 } else { case.random.pick(&[needed, more]) };
     }
     case.random.pick(&[needed, needed, more, more, needed.saturating_sub(1), needed.saturating_sub(3), 0])
@@ -502,6 +586,9 @@ pub fn failures(case: &mut Case) -> Outcome {
         case.tally.situation("failures of 65,536 cycles", cycles == MOST_CYCLES);
         tally_list(case.tally, config, &list[..needed]);
     }
+    if !refused {
+        fatal::tally_list(case.tally, config, &trace, needed, list_len);
+    }
     case.tally.situation("failures, list exactly long enough", refusal == 0 && needed > 0 && list_len == needed);
     case.tally.situation("failures, list longer", refusal == 0 && needed > 0 && list_len > needed);
     case.tally.situation("failures, list one word short", refusal == 8 && list_len + 1 == needed);
@@ -516,7 +603,7 @@ fn tally_list(tally: &mut Tally, config: Config, list: &[u32]) {
     tally.situation("attempt failed in its 32nd cycle", entries().any(in_32nd_cycle));
     tally.situation("failures, start in its own cycle", entries().any(|entry| entry[0] == entry[2]));
     if config.has_window() {
-        tally.window(config.kind, windows::LONGEST_LIST, entries().len() >= LONGEST_WINDOW as usize);
+        tally.of_kind(config.kind, windows::LONGEST_LIST, entries().len() >= LONGEST_WINDOW as usize);
     }
 }
 
@@ -531,7 +618,7 @@ pub fn open_count(case: &mut Case) -> Outcome {
         .map_err(|d| format!("open count, {config:?}, word {word:#x}: {d}"))?;
     case.tally.case(Call::OpenCount, Some(config.kind), due / 256);
     if config.refusal() == 0 {
-        windows::tally_word(case.tally, config, word);
+        tally_word(case.tally, config, word);
     }
     Ok(())
 }
@@ -642,12 +729,12 @@ pub fn bench(case: &mut Case) -> Outcome {
     let mut bench = good_bench(&mut case.random, checkers);
     let bad = if checkers == 0 { 0 } else { case.random.pick(&[0, 0, 1, 1, 2, 4]) };
     spoil_bench(&mut case.random, &mut bench, bad);
-    let Bench { table, mut frames, mut words } = bench;
+    let Bench { table, mut frames, words: mut lent } = bench;
     frames.resize(case.length(4 * checkers), 1);
-    words.resize(case.length(checkers), 0);
+    lent.resize(case.length(checkers), 0);
     let rows_len = case.length(checkers);
     let mut rows = case.random.words(rows_len);
-    let (mut due_words, mut due_rows) = (words.clone(), rows.clone());
+    let (mut words, mut due_words, mut due_rows) = (lent.clone(), lent.clone(), rows.clone());
 
     let context = |d| format!("bench of {checkers}, {} frame words, {rows_len} rows: {d}\ntable {table:?}", frames.len());
     let answer = host::bench(&table, &frames, &mut words, &mut rows).map_err(context)?;
@@ -656,10 +743,11 @@ pub fn bench(case: &mut Case) -> Outcome {
         .and_then(|()| same_entries("words", &words, &due_words))
         .and_then(|()| same_entries("rows", &rows, &due_rows))
         .map_err(context)?;
-    tally_bench(case.tally, &table, &words, &rows, due);
+    tally_bench(case.tally, &table, &lent, &rows, due);
     Ok(())
 }
 
+/// The words are those before the step.
 fn tally_bench(tally: &mut Tally, table: &[Config], words: &[u64], rows: &[u32], answer: u32) {
     let refusal = answer / 256;
     tally.case(Call::Bench, None, refusal);
@@ -674,4 +762,5 @@ fn tally_bench(tally: &mut Tally, table: &[Config], words: &[u64], rows: &[u32],
     let bad = table.iter().zip(words).filter(|pair| is_bad(*pair)).count();
     tally.situation("bench, several bad checkers", bad > 1 && matches!(refusal, 1 | 2 | 3 | 7));
     tally.situation("bench, bad checker last of 64", table.len() == 64 && answer % 256 == 63);
+    fatal::tally_bench(tally, table, words, rows, answer);
 }

@@ -1,6 +1,6 @@
 //! The inputs: configurations, traces, open words and records, all from one deterministic generator.
 
-use crate::rules::{cycles_left_in, reference_in, with_reference, Config, Frame, Range, LONGEST_WINDOW};
+use crate::rules::{self, cycles_left_in, reference_in, with_reference, Config, Frame, Range, LONGEST_WINDOW, STOPPED};
 
 /// splitmix64
 pub struct Random(u64);
@@ -106,7 +106,8 @@ pub fn good_config_of(random: &mut Random, kind: u8) -> Config {
         6 => (range(random, width), range(random, width), range(random, width)),
         _ => (range(random, width), range(random, 1), UNUSED),
     };
-    let mut config = Config { kind, n, p, q, r, min: 0, value: 0 };
+    let severity = random.below(2) as u8;
+    let mut config = Config { kind, n, p, q, r, min: 0, value: 0, severity };
     if config.is_after_trigger() {
         config.min = random.pick(&[0, 0, 1.min(n), n, n, n.saturating_sub(1), n / 2, any % (n + 1)]);
     }
@@ -192,13 +193,20 @@ fn damage_kind(random: &mut Random, config: &mut Config) {
     config.kind = random.pick(&[9, 9, 10, 128, 254, 255, any, another]);
 }
 
+/// A severity that is neither 0 nor 1.
+fn damage_severity(random: &mut Random, config: &mut Config) {
+    let any = 2 + random.below(254) as u8;
+    config.severity = random.pick(&[2, 2, 3, 128, 254, 255, 255, any]);
+}
+
 fn damage(random: &mut Random, config: &mut Config) {
-    match random.below(7) {
+    match random.below(8) {
         0 | 1 => damage_kind(random, config),
         2 => damage_n(random, config),
         3 | 4 => damage_port(random, config),
         5 => damage_min(random, config),
-        _ => damage_value(random, config),
+        6 => damage_value(random, config),
+        _ => damage_severity(random, config),
     }
 }
 
@@ -215,12 +223,14 @@ pub fn damaged_config(random: &mut Random) -> Config {
         config.q = Range { left: any[3], right: any[4] };
         config.r = Range { left: any[5], right: any[6] };
         (config.min, config.value) = (random.word(), random.word());
+        config.severity = random.pick(&[0, 1, any[7]]);
     }
     config
 }
 
 /// How the samples of a trace are drawn. Drawn anew for every trace, so that some traces are nearly silent and others have a
 /// start in every cycle.
+#[derive(Clone)]
 struct Style {
     reset: usize,
     events: i32,
@@ -228,6 +238,7 @@ struct Style {
     test: usize,
     planted: usize,
     states: Vec<u32>,
+    strange: usize,
     fixed_start_state: bool,
     enable: usize,
     steady: usize,
@@ -242,9 +253,31 @@ fn style(random: &mut Random) -> Style {
         test: random.pick(&[0, 100, 512, 900, 1000, 1024]),
         planted: random.pick(&[0, 0, 20, 200]),
         states: random.words(states),
+        strange: 30,
         fixed_start_state: random.chance(512),
         enable: random.pick(&[100, 512, 900, 1000, 1024, 1024]),
         steady: random.pick(&[0, 512, 900, 1000, 1024, 1024]),
+    }
+}
+
+/// The same style with few failures or none, and few illegal starts.
+fn calm(config: Config, style: &Style) -> Style {
+    let states = vec![style.states[0]];
+    let start = if config.kind == 5 { style.start.min(20) } else { style.start };
+    Style { events: 9, start, test: 1024, planted: 0, states, strange: 0, steady: 1024, ..style.clone() }
+}
+
+/// The same style with failures soon after each start.
+fn wild(style: &Style) -> Style {
+    Style {
+        reset: style.reset.min(20),
+        events: 1,
+        start: 512,
+        test: 100,
+        strange: 512,
+        enable: 1024,
+        steady: 0,
+        ..style.clone()
     }
 }
 
@@ -285,7 +318,7 @@ fn frame(random: &mut Random, config: Config, style: &Style) -> Frame {
         put_bit(&mut frame[2], config.q, 0, random.chance(style.start));
     } else {
         for (word, range) in frame[1..].iter_mut().zip([config.p, config.q, config.r]) {
-            let value = if random.chance(30) { random.word() } else { random.pick(&style.states) };
+            let value = if random.chance(style.strange) { random.word() } else { random.pick(&style.states) };
             put_value(word, range, value);
         }
         if style.fixed_start_state {
@@ -325,20 +358,42 @@ fn styled_frames(random: &mut Random, config: Config, cycles: usize, style: &Sty
     trace
 }
 
+/// Most traces of a fatal checker begin calm: in others it would most often stop early, and have little to go on from. Some end
+/// with the cycle where it stops.
 pub fn trace(random: &mut Random, config: Config, cycles: usize) -> Vec<u32> {
     if config.refusal() != 0 {
         return random.words(4 * cycles);
     }
-    let style = style(random);
-    let mut trace = styled_frames(random, config, cycles, &style);
-    for s in 0..cycles {
+    let mut style = style(random);
+    let (mut first, mut trace) = (0, Vec::new());
+    if config.is_fatal() && random.chance(700) {
+        let any = random.below(cycles + 1);
+        first = random.pick(&[0, any, any, any, any, any, any, any]);
+        trace = styled_frames(random, config, first, &calm(config, &style));
+        style = if random.chance(700) { wild(&style) } else { style };
+    }
+    trace.extend(styled_frames(random, config, cycles - first, &style));
+    for s in first..cycles {
         if config.is_sequence() && random.chance(style.planted) {
             plant_attempt(random, config, &mut trace, s);
         } else if config.is_after_trigger() && random.chance(style.planted) {
             plant_triggers(random, config, &mut trace, s);
         }
     }
+    if config.is_fatal() && random.chance(80) {
+        put_stop_last(random, config, &mut trace);
+    }
     trace
+}
+
+/// Cuts the trace behind the cycle where it stops a fatal checker, and fills it up from the front, with cycles in reset.
+fn put_stop_last(random: &mut Random, config: Config, trace: &mut Vec<u32>) {
+    let words = rules::true_record(config, trace).words;
+    let Some(stop) = words.iter().position(|word| *word == STOPPED) else { return };
+    let mut front = random.words(trace.len() - 4 * (stop + 1));
+    front.iter_mut().step_by(4).for_each(|reset| *reset &= !1);
+    trace.truncate(4 * (stop + 1));
+    trace.splice(..0, front);
 }
 
 /// What is certain of the tested cycles of a window: the last does not fail, or it does, or all do.
@@ -369,17 +424,18 @@ fn put_outcome(config: Config, trace: &mut [u32], t: usize, right: u32, passes: 
 }
 
 /// A trace in which the start in s has a window that closes, unless an earlier start has. There is no reset, and for kind 4,
-/// where a second start would put off the end, no other start.
+/// where a second start would put off the end, no other start. A fatal checker would stop before the last cycle: so for it
+/// the cycles before that pass, unless all fail, and kind 5 has no other start either.
 pub fn window_trace(random: &mut Random, config: Config, cycles: usize, s: usize, failing: Failing) -> Vec<u32> {
     let drawn = style(random);
-    let start = if config.kind == 4 { 0 } else { drawn.start };
-    let style = Style { reset: 0, start, ..drawn };
+    let only = config.kind == 4 || config.kind == 5 && config.is_fatal();
+    let style = Style { reset: 0, start: if only { 0 } else { drawn.start }, ..drawn };
     let mut trace = styled_frames(random, config, cycles, &style);
     let right = if config.kind == 7 { config.value } else { style.states[0] };
     let first = if config.is_time() { s + 1 } else { s + config.min as usize };
     let last = s + config.n as usize;
-    if failing == Failing::All {
-        (first..=last).for_each(|t| put_outcome(config, &mut trace, t, right, false));
+    if failing == Failing::All || config.is_fatal() {
+        (first..=last).for_each(|t| put_outcome(config, &mut trace, t, right, failing != Failing::All));
     }
     put_outcome(config, &mut trace, last, right, failing == Failing::NotLast);
     if config.kind == 8 {
@@ -421,10 +477,25 @@ pub fn edited_in_cycle_0(random: &mut Random, config: Config, old: &[u32]) -> Ve
     new
 }
 
+/// Makes the frames from a on such that a fatal checker does not stop in them, or does.
+fn edit_stop(random: &mut Random, config: Config, trace: &mut [u32], a: usize) {
+    let (drawn, is_calm) = (style(random), random.chance(512));
+    let style = if is_calm { calm(config, &drawn) } else { wild(&drawn) };
+    let frames = styled_frames(random, config, trace.len() / 4 - a, &style);
+    trace[4 * a..].copy_from_slice(&frames);
+    if is_calm && random.chance(512) {
+        // What was open before need not pass.
+        trace[4 * a] &= !1;
+    } else if !is_calm && config.is_sequence() {
+        plant_attempt(random, config, trace, a);
+    }
+}
+
 /// A trace with the same frames outside a to b−1.
 pub fn edited(random: &mut Random, config: Config, old: &[u32], a: usize, b: usize) -> Vec<u32> {
     let mut new = old.to_vec();
     match random.below(5) {
+        _ if config.is_fatal() && a < b && random.chance(768) => edit_stop(random, config, &mut new[..4 * b], a),
         0 | 1 => new[4 * a..4 * b].copy_from_slice(&trace(random, config, b - a)),
         2 => {
             for t in a..b {
@@ -442,7 +513,17 @@ pub fn edited(random: &mut Random, config: Config, old: &[u32], a: usize, b: usi
     new
 }
 
+/// A word that is possible for this configuration; 2^63 now and then, where it is.
 pub fn possible_word(random: &mut Random, config: Config) -> u64 {
+    if config.can_stop() && random.chance(250) {
+        STOPPED
+    } else {
+        open_word(random, config)
+    }
+}
+
+/// A word of a checker that goes on, or of a fatal one that has not stopped.
+fn open_word(random: &mut Random, config: Config) -> u64 {
     let n = u64::from(config.n);
     let any = random.next();
     match config.kind {
@@ -503,10 +584,19 @@ fn impossible_stability_word(random: &mut Random, config: Config) -> u64 {
     random.pick(&words)
 }
 
-/// The word made one that passes with this frame, where it holds a value to compare with: that is hit seldom by chance.
+/// 2^63 where it is not possible, or a word near it, also one with the bits of an open word.
+fn impossible_stop(random: &mut Random, config: Config) -> u64 {
+    let open = open_word(random, config);
+    let mut words = vec![STOPPED, STOPPED, STOPPED, STOPPED + 1, STOPPED >> 1, STOPPED - 1, STOPPED | open, STOPPED | open];
+    words.retain(|word| !config.possible(*word));
+    random.pick(&words)
+}
+
+/// A possible word made one that passes with this frame, where it holds a value to compare with: that is hit seldom by chance.
 pub fn passing_word(config: Config, frame: Frame, word: u64) -> u64 {
     let tested = u64::from(config.p.value(frame[1]));
     match config.kind {
+        _ if word == STOPPED || !config.possible(word) => word,
         6 if word != 0 => 1 << 32 | tested,
         8 if reference_in(word).is_some() => with_reference(cycles_left_in(word), tested),
         _ => word,
@@ -517,6 +607,7 @@ pub fn impossible_word(random: &mut Random, config: Config) -> u64 {
     let (n, longest) = (u64::from(config.n), u64::from(LONGEST_WINDOW));
     let any = random.next();
     match config.kind {
+        _ if random.chance(450) => impossible_stop(random, config),
         0 | 1 => random.pick(&[1 << (n - 1), 1 << n, u64::MAX, any | 1 << 40, (1 << (n - 1)) + 1]),
         2 => random.pick(&[1 << (n - 1), 3 << (n - 2), 1 << n, u64::MAX, 1 << 63 | 1, if n > 2 { 3 } else { 2 }]),
         3..=5 => random.pick(&[n + 1, n + 2, longest.max(n + 1), longest + 1, u64::MAX, 1 << 32 | 1, any | 1 << 20]),

@@ -5,7 +5,8 @@ use crate::rules::{Config, Edit, Frame};
 use std::fmt::Debug;
 use std::sync::atomic::{AtomicUsize, Ordering};
 
-/// `struct selvedgeon_config`: six range bytes follow n, each range a left and a right byte; then min and the value of §4.
+/// `struct selvedgeon_config`: six range bytes follow n, each range a left and a right byte; then min and the value of §4,
+/// and the severity of §7.
 #[repr(C)]
 #[derive(Clone, Copy, Debug, PartialEq)]
 struct HostConfig {
@@ -14,30 +15,34 @@ struct HostConfig {
     ranges: [u8; 6],
     min: u32,
     value: u32,
+    severity: u8,
 }
+
+// The table of a bench is made of these, one behind the other.
+const _: () = assert!(size_of::<HostConfig>() == 28);
 
 impl HostConfig {
     fn new(c: &Config) -> HostConfig {
         let ranges = [c.p.left, c.p.right, c.q.left, c.q.right, c.r.left, c.r.right];
-        HostConfig { kind: c.kind, n: c.n, ranges, min: c.min, value: c.value }
+        HostConfig { kind: c.kind, n: c.n, ranges, min: c.min, value: c.value, severity: c.severity }
     }
 }
 
 #[rustfmt::skip]
 extern "C" {
     fn selvedgeon_step(kind: u8, n: u32, p_left: u8, p_right: u8, q_left: u8, q_right: u8, r_left: u8, r_right: u8,
-        min: u32, value: u32, reset: u32, p: u32, q: u32, r: u32, word: *mut u8, word_len: usize) -> u32;
+        min: u32, value: u32, severity: u8, reset: u32, p: u32, q: u32, r: u32, word: *mut u8, word_len: usize) -> u32;
     fn selvedgeon_check(kind: u8, n: u32, p_left: u8, p_right: u8, q_left: u8, q_right: u8, r_left: u8, r_right: u8,
-        min: u32, value: u32, trace: *const u32, trace_len: usize, rows: *mut u32, rows_len: usize,
+        min: u32, value: u32, severity: u8, trace: *const u32, trace_len: usize, rows: *mut u32, rows_len: usize,
         words: *mut u64, words_len: usize) -> u32;
     fn selvedgeon_recheck(kind: u8, n: u32, p_left: u8, p_right: u8, q_left: u8, q_right: u8, r_left: u8, r_right: u8,
-        min: u32, value: u32, trace: *const u32, trace_len: usize, rows: *mut u32, rows_len: usize,
+        min: u32, value: u32, severity: u8, trace: *const u32, trace_len: usize, rows: *mut u32, rows_len: usize,
         words: *mut u64, words_len: usize, a: u64, b: u64, answer: *mut i32, answer_len: usize) -> u32;
     fn selvedgeon_totals(rows: *const u32, rows_len: usize, counts: *mut u32, counts_len: usize) -> u32;
     fn selvedgeon_failures(kind: u8, n: u32, p_left: u8, p_right: u8, q_left: u8, q_right: u8, r_left: u8, r_right: u8,
-        min: u32, value: u32, trace: *const u32, trace_len: usize, list: *mut u32, list_len: usize) -> u64;
+        min: u32, value: u32, severity: u8, trace: *const u32, trace_len: usize, list: *mut u32, list_len: usize) -> u64;
     fn selvedgeon_open_count(kind: u8, n: u32, p_left: u8, p_right: u8, q_left: u8, q_right: u8, r_left: u8, r_right: u8,
-        min: u32, value: u32, word: u64) -> u32;
+        min: u32, value: u32, severity: u8, word: u64) -> u32;
     fn selvedgeon_first_failure(checkers: u64, cycles: u64, rows: *const u32, rows_len: usize) -> u64;
     fn selvedgeon_bench(table: *const HostConfig, table_len: usize, frames: *const u32, frames_len: usize,
         words: *mut u64, words_len: usize, rows: *mut u32, rows_len: usize) -> u32;
@@ -63,7 +68,7 @@ impl Entry for u64 {
 }
 impl Entry for HostConfig {
     const GUARD: HostConfig =
-        HostConfig { kind: 0xa5, n: 0x5ea1_ed01, ranges: [0xa5; 6], min: 0x5ea1_ed01, value: 0x5ea1_ed01 };
+        HostConfig { kind: 0xa5, n: 0x5ea1_ed01, ranges: [0xa5; 6], min: 0x5ea1_ed01, value: 0x5ea1_ed01, severity: 0xa5 };
 }
 
 /// Counts the empty buffers: every second one is lent as a null pointer, which the header allows.
@@ -126,7 +131,7 @@ pub fn step(c: Config, frame: Frame, word: &mut [u8]) -> Result<u32, String> {
     #[rustfmt::skip]
     let answer = unsafe {
         selvedgeon_step(c.kind, c.n, c.p.left, c.p.right, c.q.left, c.q.right, c.r.left, c.r.right, c.min, c.value,
-            reset, p, q, r, pointer, len)
+            c.severity, reset, p, q, r, pointer, len)
     };
     bytes.give_back(word)?;
     Ok(answer)
@@ -137,7 +142,7 @@ pub fn check(c: Config, trace: &[u32], rows: &mut [u32], words: &mut [u64]) -> R
     #[rustfmt::skip]
     let answer = unsafe {
         selvedgeon_check(c.kind, c.n, c.p.left, c.p.right, c.q.left, c.q.right, c.r.left, c.r.right, c.min, c.value,
-            t.pointer(), t.len(), r.pointer(), r.len(), w.pointer(), w.len())
+            c.severity, t.pointer(), t.len(), r.pointer(), r.len(), w.pointer(), w.len())
     };
     t.is_unchanged(trace)?;
     r.give_back(rows)?;
@@ -152,7 +157,8 @@ pub fn recheck(edit: &Edit, rows: &mut [u32], words: &mut [u64], answer: &mut [i
     #[rustfmt::skip]
     let refusal = unsafe {
         selvedgeon_recheck(c.kind, c.n, c.p.left, c.p.right, c.q.left, c.q.right, c.r.left, c.r.right, c.min, c.value,
-            t.pointer(), t.len(), r.pointer(), r.len(), w.pointer(), w.len(), edit.a, edit.b, x.pointer(), x.len())
+            c.severity, t.pointer(), t.len(), r.pointer(), r.len(), w.pointer(), w.len(), edit.a, edit.b, x.pointer(),
+            x.len())
     };
     t.is_unchanged(edit.trace)?;
     r.give_back(rows)?;
@@ -174,7 +180,7 @@ pub fn failures(c: Config, trace: &[u32], list: &mut [u32]) -> Result<u64, Strin
     #[rustfmt::skip]
     let answer = unsafe {
         selvedgeon_failures(c.kind, c.n, c.p.left, c.p.right, c.q.left, c.q.right, c.r.left, c.r.right, c.min, c.value,
-            t.pointer(), t.len(), l.pointer(), l.len())
+            c.severity, t.pointer(), t.len(), l.pointer(), l.len())
     };
     t.is_unchanged(trace)?;
     l.give_back(list)?;
@@ -186,7 +192,7 @@ pub fn open_count(c: Config, word: u64) -> u32 {
     #[rustfmt::skip]
     let answer = unsafe {
         selvedgeon_open_count(c.kind, c.n, c.p.left, c.p.right, c.q.left, c.q.right, c.r.left, c.r.right, c.min, c.value,
-            word)
+            c.severity, word)
     };
     answer
 }

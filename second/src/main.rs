@@ -1,9 +1,10 @@
-//! A second program for the rules of document 01 with §2, §4 and §5 of document 02, and a comparison of the library with it
-//! on many inputs.
+//! A second program for the rules of document 01 with §2, §4, §5 and §7 of document 02, and a comparison of the library with
+//! it on many inputs.
 //!
 //! SEED=n sets the seed; CASES=n or SECONDS=n how long to run; CASE=n runs one case alone.
 
 mod cases;
+mod fatal;
 mod generate;
 mod host;
 mod rules;
@@ -12,13 +13,13 @@ mod tally;
 mod whiteboard;
 mod windows;
 
-use cases::{Case, Size};
+use cases::{Case, Longest, Size};
 use std::process::ExitCode;
 use std::time::{Duration, Instant};
 use tally::Tally;
 
 const DEFAULT_SEED: u64 = 20_260;
-const DEFAULT_CASES: u64 = 40_000;
+const DEFAULT_CASES: u64 = 80_000;
 
 type CaseOf = fn(&mut Case) -> Result<(), String>;
 
@@ -56,7 +57,7 @@ fn size(case: u64) -> Size {
     let place = case % TURNS.len() as u64;
     let turn = case / TURNS.len() as u64 + 19 * place;
     if turn % 120 == 45 {
-        return Size::Longest(turn / 120);
+        return Size::Longest(Longest::new(turn as usize / 120));
     }
     match turn % 300 {
         100 => Size::Greatest,

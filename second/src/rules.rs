@@ -1,7 +1,8 @@
-//! The rules of document 01, with §2, §4 and §5 of document 02, as a search over starts. A full check looks, for every cycle,
-//! for the starts that matter in it; a step from an open word builds a trace that leaves this word and asks the same search
-//! about the cycle behind it, and a recheck about all cycles behind it. The sentence that a function follows is quoted above
-//! it, from document 01 where no other is named.
+//! The rules of document 01, with §2, §4, §5 and §7 of document 02, as a search over starts. A full check looks, for every
+//! cycle, for the starts that matter in it; a step from an open word builds a trace that leaves this word and asks the same
+//! search about the cycle behind it, and a recheck about all cycles behind it. All of this is about a checker that goes on; a
+//! fatal one has its rows and words up to the first cycle that fails. The sentence that a function follows is quoted above it,
+//! from document 01 where no other is named.
 
 pub const MARKS: [u32; 5] = [1, 2, 4, 8, 16];
 pub const MOST_CYCLES: usize = 65_536;
@@ -11,6 +12,8 @@ pub const LONGEST_WINDOW: u32 = 65_535;
 const STORED: u64 = 1 << 32;
 const HELD: u64 = 1 << 48;
 const REFERENCE_SHIFT: u32 = 16;
+/// §7: "the open word is 2^63 to the end of the trace"
+pub const STOPPED: u64 = 1 << 63;
 
 pub type Frame = [u32; 4];
 
@@ -20,7 +23,8 @@ pub struct Range {
     pub right: u8,
 }
 
-/// §4: "n is max; min and the expected value are constants of the configuration, 0 where unused"
+/// §4: "n is max; min and the expected value are constants of the configuration, 0 where unused". §7: "The checker record
+/// gains a severity".
 #[derive(Clone, Copy, Debug, PartialEq, Eq)]
 pub struct Config {
     pub kind: u8,
@@ -30,6 +34,7 @@ pub struct Config {
     pub r: Range,
     pub min: u32,
     pub value: u32,
+    pub severity: u8,
 }
 
 impl Range {
@@ -75,6 +80,22 @@ impl Config {
     /// The kinds whose n is the length of a window.
     pub fn has_window(self) -> bool {
         self.is_time() || self.is_after_trigger()
+    }
+
+    /// §7: "0 goes on, 1 is fatal"
+    pub fn is_fatal(self) -> bool {
+        self.severity == 1
+    }
+
+    /// The same checker with severity 0.
+    pub fn going_on(self) -> Config {
+        Config { severity: 0, ..self }
+    }
+
+    /// §7: "a fatal checker that can fail (all but kind 8 with min equal to max)". With min equal to max, stability is tested
+    /// in one cycle at most, where it takes its reference.
+    pub fn can_stop(self) -> bool {
+        self.is_fatal() && !(self.kind == 8 && self.min == self.n)
     }
 
     /// The limits of n in the table of kinds, with those of §4 and §5.
@@ -127,12 +148,12 @@ impl Config {
     }
 
     /// Refusals 1 to 3: "n outside its limits", "index above 31, wrong width, or unused port not 0:0"; §4 adds min to 2 and
-    /// the value to 3, and: "Kinds 7 and 8, so refusal 1 starts at 9."
+    /// the value to 3, and: "Kinds 7 and 8, so refusal 1 starts at 9." §7: "0 goes on, 1 is fatal, else refusal 2."
     pub fn refusal(self) -> u32 {
         let (least, most) = self.limits();
         if self.kind > 8 {
             1
-        } else if self.n < least || self.n > most || self.min > self.greatest_min() {
+        } else if self.n < least || self.n > most || self.min > self.greatest_min() || self.severity > 1 {
             2
         } else if !self.ports_are_right() || !self.value_is_right() {
             3
@@ -143,9 +164,10 @@ impl Config {
 
     /// "A word is possible when: kinds 0 and 1, below 2^(n−1); kind 2, also at most one bit set; kinds 3 to 5, at most n;
     /// kind 6, 0 or 2^32 plus a value that fits the width." §4: "The open word is the cycles left to s+max"; "A word is
-    /// possible exactly when some trace leaves it."
+    /// possible exactly when some trace leaves it." §7: "2^63 is possible exactly for a fatal checker that can fail".
     pub fn possible(self, word: u64) -> bool {
         match self.kind {
+            _ if word == STOPPED => self.can_stop(),
             0 | 1 => word < 1 << (self.n - 1),
             2 => word == 0 || (0..self.n - 1).any(|j| word == 1 << j),
             3..=5 | 7 => word <= u64::from(self.n),
@@ -476,13 +498,22 @@ impl History {
         reference.map_or(left, |r| with_reference(left, u64::from(r)))
     }
 
-    /// The rows and words from this cycle on.
+    /// The cycle in which a fatal checker stops: the first with mark 1 or 2 on the checker that goes on.
+    fn stop(&self) -> Option<usize> {
+        let fails = |t: &usize| self.verdict(*t).row() & 3 != 0;
+        (0..self.p.len()).find(|t| self.config.is_fatal() && fails(t))
+    }
+
+    /// The rows and words from this cycle on. §7: "After a cycle with mark 1 or 2 on a fatal checker, the open word is 2^63 to
+    /// the end of the trace, rows are 0, and a reset does not revive it"; "The failing cycle itself has all its marks." The
+    /// word of a cycle is the one after it, so that of the failing cycle is 2^63 too.
     fn record_from(&self, first: usize) -> Record {
+        let stop = self.stop().unwrap_or(self.p.len());
         let mut record = Record { rows: Vec::new(), words: Vec::new() };
         for t in first..self.p.len() {
             let verdict = self.verdict(t);
-            record.rows.push(verdict.row());
-            record.words.push(verdict.word);
+            record.rows.push(if t <= stop { verdict.row() } else { 0 });
+            record.words.push(if t < stop { verdict.word } else { STOPPED });
         }
         record
     }
@@ -499,10 +530,35 @@ pub fn true_record(config: Config, trace: &[u32]) -> Record {
     History::new(config, trace).record_from(0)
 }
 
-/// Some trace that leaves a possible word.
+/// A possible word other than 2^63, and a frame that fails from it, for a checker that can fail.
+fn failing_step(config: Config) -> (u64, Frame) {
+    let (min, max) = (u64::from(config.min), u64::from(config.n));
+    match config.kind {
+        // An attempt alive through s+n−2, and no event: that is a failure for kind 0 too.
+        0..=2 => (1 << (config.n - 2), [1, 0, 0, 0]),
+        // Test 0 in the cycle after the start.
+        3..=5 => (max, [1, 0, 0, 0]),
+        // In s+min, which is the trigger cycle itself for min 0. Later a trigger is ignored.
+        7 => {
+            let before = if min == 0 { 0 } else { max - min + 1 };
+            (before, [3, config.p.wires(config.value ^ 1), 1 << config.q.wire(0), 0])
+        }
+        // In s+min+1, with the reference 0 of s+min.
+        8 => (with_reference(max - min, 0), [3, config.p.wires(1), 0, 0]),
+        // The stored value is 0.
+        _ => (STORED, [1, config.p.wires(1), 0, 0]),
+    }
+}
+
+/// Some trace that leaves a possible word. No cycle of it has a failure or an illegal start, but for the last one of the
+/// trace that leaves 2^63: so it leaves the word whatever the severity is.
 fn trace_that_leaves(config: Config, word: u64) -> Vec<u32> {
     let mut trace = Vec::new();
-    if config.is_sequence() {
+    if word == STOPPED {
+        let (before, frame) = failing_step(config);
+        trace = trace_that_leaves(config, before);
+        trace.extend(frame);
+    } else if config.is_sequence() {
         // Bit j of the word is an attempt from t−j, with t = n−2 the last cycle: its wires are set and no others, so that
         // no second attempt starts.
         let n = config.n as usize;
@@ -526,11 +582,12 @@ fn trace_that_leaves(config: Config, word: u64) -> Vec<u32> {
 }
 
 /// A trigger, then as many cycles as leave this many in the window. With a reference, P has its value and enable is 1 from
-/// the trigger on; without one, enable is 0 after the trigger, so that none is taken.
+/// the trigger on; without one, enable is 0 after the trigger, so that none is taken. For kind 7, P has the expected value: with
+/// min 0 the trigger cycle is tested.
 fn window_that_leaves(config: Config, word: u64) -> Vec<u32> {
     let reference = reference_in(word);
     let left = if reference.is_some() { cycles_left_in(word) } else { word };
-    let p = config.p.wires(reference.unwrap_or(0) as u32);
+    let p = config.p.wires(reference.map_or(config.value, |r| r as u32));
     let mut trace = vec![3, p, 1 << config.q.wire(0), 0];
     let after = if reference.is_some() { 3 } else { 1 };
     trace.extend([after, p, 0, 0].repeat(config.n as usize - left as usize));
@@ -600,7 +657,7 @@ pub fn check(config: Config, trace: &[u32], rows: &mut [u32], words: &mut [u64])
 }
 
 /// "before cycle 0 both are 0"
-fn word_before(words: &[u64], t: usize) -> u64 {
+pub fn word_before(words: &[u64], t: usize) -> u64 {
     if t == 0 {
         0
     } else {
@@ -696,10 +753,11 @@ impl Edit<'_> {
     }
 
     /// "For true kept records, e ≤ b+n−1 for kinds 0 and 1, e ≤ b+n for kind 4, e ≤ b+1 for kind 6. Kinds 2, 3 and 5 have no
-    /// such limit." §4, of kinds 7 and 8: "no limit on e is claimed."
+    /// such limit." §4, of kinds 7 and 8: "no limit on e is claimed." §7, of fatal checkers: "the limits on e are withdrawn".
     pub fn latest_end(&self) -> Option<u64> {
         let n = u64::from(self.config.n);
         match self.config.kind {
+            _ if self.config.is_fatal() => None,
             0 | 1 => Some(self.b + n - 1),
             4 => Some(self.b + n),
             6 => Some(self.b + 1),
@@ -731,11 +789,13 @@ pub fn totals(rows: &[u32], counts: &mut [u32]) -> u32 {
 }
 
 /// "three 32-bit words each (cycle, mark 1 or 2, start cycle), ordered by cycle, mark, start"; "A time check's start is where it
-/// was opened or last window reset, a transition's the cycle before." §4: "The listed start is the trigger cycle."
+/// was opened or last window reset, a transition's the cycle before." §4: "The listed start is the trigger cycle." §7: "For fatal
+/// checkers demand 2 speaks of starts and checks through the first cycle with mark 1 or 2", so no later cycle has an entry.
 pub fn entries(config: Config, trace: &[u32]) -> Vec<[u32; 3]> {
     let history = History::new(config, trace);
+    let end = history.stop().map_or(trace.len() / 4, |stop| stop + 1);
     let mut entries = Vec::new();
-    for t in 0..trace.len() / 4 {
+    for t in 0..end {
         let verdict = history.verdict(t);
         entries.extend(verdict.failed.iter().map(|&s| [t as u32, 1, s as u32]));
         entries.extend(verdict.illegal.map(|s| [t as u32, 2, s as u32]));
@@ -762,10 +822,13 @@ pub fn failures(config: Config, trace: &[u32], list: &mut [u32]) -> u64 {
 }
 
 /// "Open count of a possible word: the number of its ones for kinds 0 to 2, otherwise 1 when a check is unfinished, else 0."
+/// §7, of 2^63: "its open count is 0".
 pub fn open_count(config: Config, word: u64) -> u32 {
     let refusal = step_refusal(config, word);
     if refusal != 0 {
         256 * refusal
+    } else if word == STOPPED {
+        0
     } else if config.is_sequence() {
         (0..64).filter(|j| word >> j & 1 == 1).count() as u32
     } else {

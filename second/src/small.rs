@@ -3,7 +3,7 @@
 use crate::cases::{same, same_entries};
 use crate::generate::{wire, UNUSED};
 use crate::host;
-use crate::rules::{self, Config, Edit, Range, Record, LONGEST_WINDOW};
+use crate::rules::{self, Config, Edit, Range, Record, LONGEST_WINDOW, STOPPED};
 
 type Outcome = Result<(), String>;
 
@@ -12,9 +12,14 @@ fn compare_open_count(config: Config, word: u64) -> Outcome {
         .map_err(|d| format!("{config:?}, word {word:#x}: {d}"))
 }
 
-/// The refusal of a configuration, seen through the open count of word 0, which is always possible.
-fn compare_config(config: Config) -> Outcome {
-    compare_open_count(config, 0)
+/// The refusal of a configuration, seen through the open count of word 0, which is always possible: with both severities, the
+/// least that is refused, and the greatest. The answer is how many these are.
+fn compare_config(config: Config) -> Result<u64, String> {
+    let severities = [0, 1, 2, 255];
+    for severity in severities {
+        compare_open_count(Config { severity, ..config }, 0)?;
+    }
+    Ok(severities.len() as u64)
 }
 
 /// Numbers at and around the limits of n and of min, the one of 1,024 that §5 raised, and one whose lower 16 bits are small.
@@ -28,7 +33,7 @@ const BOUNDS: [u32; 16] = [
 fn with_right_ports(kind: u8, n: u32) -> Config {
     let p = if kind <= 2 { Range { left: 0, right: n.clamp(1, 32) as u8 - 1 } } else { wire(3) };
     let other = if kind == 6 { wire(5) } else { UNUSED };
-    Config { kind, n, p, q: other, r: other, min: 0, value: 0 }
+    Config { kind, n, p, q: other, r: other, min: 0, value: 0, severity: 0 }
 }
 
 /// Every kind, n at and around its limits, and every range of low numbers for one port while the others are right.
@@ -38,16 +43,14 @@ fn configs() -> Result<u64, String> {
     for kind in 0..=255 {
         for n in BOUNDS {
             let right = with_right_ports(kind, n);
-            compare_config(right)?;
-            compared += 1;
+            compared += compare_config(right)?;
             // Above 9 the kinds are refused before their ports are looked at; one of them is enough.
             let ranges = if kind <= 9 { indices.as_slice() } else { &[] };
             for (&left, &other) in ranges.iter().flat_map(|left| ranges.iter().map(move |right| (left, right))) {
                 let range = Range { left, right: other };
-                compare_config(Config { p: range, ..right })?;
-                compare_config(Config { q: range, ..right })?;
-                compare_config(Config { r: range, ..right })?;
-                compared += 3;
+                compared += compare_config(Config { p: range, ..right })?;
+                compared += compare_config(Config { q: range, ..right })?;
+                compared += compare_config(Config { r: range, ..right })?;
             }
         }
     }
@@ -62,19 +65,36 @@ fn mins_and_values() -> Result<u64, String> {
     for (kind, n) in (0..=9).flat_map(|kind| BOUNDS.map(|n| (kind, n))) {
         let right = with_right_ports(kind, n);
         for (min, value) in BOUNDS.iter().flat_map(|&min| values.map(|value| (min, value))) {
-            compare_config(Config { min, value, ..right })?;
+            compared += compare_config(Config { min, value, ..right })?;
             for (left, right_end) in ranges {
-                compare_config(Config { min, value, p: Range { left, right: right_end }, ..right })?;
+                compared += compare_config(Config { min, value, p: Range { left, right: right_end }, ..right })?;
             }
-            compared += 1 + ranges.len() as u64;
         }
     }
     Ok(compared)
 }
 
+/// Every kind and every severity, with n at and around its limits.
+fn severities() -> Result<u64, String> {
+    let mut compared = 0;
+    for (kind, n) in (0..=255).flat_map(|kind| BOUNDS.map(|n| (kind, n))) {
+        let right = with_right_ports(kind, n);
+        for severity in 0..=255 {
+            compare_open_count(Config { severity, ..right }, 0)?;
+            compared += 1;
+        }
+    }
+    Ok(compared)
+}
+
+/// The checker going on, and the same checker fatal.
+fn both(config: Config) -> [Config; 2] {
+    [0, 1].map(|severity| Config { severity, ..config })
+}
+
 /// Small configurations of kinds 0 to 6, in both directions where a port has more than one wire.
 fn small_configs() -> Vec<Config> {
-    let new = |kind, n, p, q, r| Config { kind, n, p, q, r, min: 0, value: 0 };
+    let new = |kind, n, p, q, r| Config { kind, n, p, q, r, min: 0, value: 0, severity: 0 };
     let mut configs = Vec::new();
     for kind in 0..=2 {
         for n in 2..=4 {
@@ -96,14 +116,15 @@ fn small_configs() -> Vec<Config> {
 fn small_windows() -> Vec<Config> {
     let mut configs = Vec::new();
     for (min, n) in (0..=3).flat_map(|n| (0..=n).map(move |min| (min, n))) {
-        let window = |kind, value| Config { kind, n, p: wire(31), q: wire(0), r: UNUSED, min, value };
+        let window = |kind, value| Config { kind, n, p: wire(31), q: wire(0), r: UNUSED, min, value, severity: 0 };
         configs.extend([window(7, 1), window(8, 0)]);
         // The other value only turns the wire round, so shorter windows are enough for it.
         configs.extend((n <= 2).then_some(window(7, 0)));
     }
     for (min, n) in [(0, 1), (1, 2)] {
         for (left, right, value) in [(30, 31, 1), (1, 0, 2)] {
-            let wide = |kind, value| Config { kind, n, p: Range { left, right }, q: wire(7), r: UNUSED, min, value };
+            let (p, q) = (Range { left, right }, wire(7));
+            let wide = |kind, value| Config { kind, n, p, q, r: UNUSED, min, value, severity: 0 };
             configs.extend([wide(7, value), wide(8, 0)]);
         }
     }
@@ -137,8 +158,9 @@ fn words_to_try(config: Config) -> Vec<u64> {
         words.extend([1 << 16 | 1, 1 << 47 | 1, rules::with_reference(1, 1 << 32), rules::with_reference(1, 1) | 1 << 49]);
     }
     if config.kind >= 6 {
-        words.extend([1 << 33, 1 << 63, u64::MAX]);
+        words.push(1 << 33);
     }
+    words.extend([STOPPED >> 1, STOPPED, STOPPED + 1, u64::MAX]);
     words
 }
 
@@ -164,8 +186,8 @@ fn window_words() -> Result<u64, String> {
         [1, 2, 16, 31, 32].into_iter().flat_map(|width| limits.iter().map(move |limit| (width, limit)))
     {
         let p = Range { left: width - 1, right: 0 };
-        for kind in [7, 8] {
-            let config = Config { kind, n, p, q: wire(9), r: UNUSED, min, value: 0 };
+        let window = |kind| Config { kind, n, p, q: wire(9), r: UNUSED, min, value: 0, severity: 0 };
+        for config in [7, 8].into_iter().flat_map(|kind| both(window(kind))) {
             for word in words_at_limits(config) {
                 compare_open_count(config, word)?;
                 compared += 1;
@@ -175,9 +197,30 @@ fn window_words() -> Result<u64, String> {
     Ok(compared)
 }
 
+/// Every kind with the most wires, where n is not a window.
+fn widest() -> Vec<Config> {
+    let (p, all) = (Range { left: 31, right: 0 }, Range { left: 0, right: 31 });
+    let new = |kind, n, other| Config { kind, n, p, q: other, r: other, min: 0, value: 0, severity: 0 };
+    vec![new(0, 32, UNUSED), new(1, 32, UNUSED), new(2, 32, UNUSED), new(6, 0, all)]
+}
+
+/// 2^63, and with one bit turned round, for checkers of all sorts.
+fn stopped_words() -> Result<u64, String> {
+    let mut compared = 0;
+    let configs = [small_configs(), small_windows(), longest_windows(), widest()].concat();
+    for config in configs.into_iter().flat_map(both) {
+        for word in (0..64).map(|bit| STOPPED ^ 1 << bit).chain([STOPPED]) {
+            compare_open_count(config, word)?;
+            compared += 1;
+        }
+    }
+    Ok(compared)
+}
+
 /// The longest window of every kind that has one.
 fn longest_windows() -> Vec<Config> {
-    let window = |kind, min| Config { kind, n: LONGEST_WINDOW, p: wire(31), q: wire(0), r: UNUSED, min, value: 0 };
+    let (n, p, q) = (LONGEST_WINDOW, wire(31), wire(0));
+    let window = |kind, min| Config { kind, n, p, q, r: UNUSED, min, value: 0, severity: 0 };
     let mut configs: Vec<Config> = (3..=5).map(|kind| window(kind, 0)).collect();
     configs.extend([0, 1, LONGEST_WINDOW - 1, LONGEST_WINDOW].into_iter().flat_map(|min| [window(7, min), window(8, min)]));
     configs
@@ -188,12 +231,12 @@ fn steps(config: Config) -> Result<u64, String> {
     steps_from(config, words_to_try(config))
 }
 
-/// The same for a longest window: from the words with the most cycles left, the fewest, and 65,536.
+/// The same for a longest window: from the words with the most cycles left, the fewest, and 65,536; and from 2^63.
 fn longest_steps(config: Config) -> Result<u64, String> {
     let longest = u64::from(LONGEST_WINDOW);
     let lefts = [0, 1, 2, longest - 1, longest, longest + 1];
     let held = lefts.into_iter().flat_map(|left| [0, 1].map(|reference| rules::with_reference(left, reference)));
-    let words = lefts.into_iter().chain(held.filter(|_| config.is_after_trigger())).collect();
+    let words = lefts.into_iter().chain(held.filter(|_| config.is_after_trigger())).chain([STOPPED]).collect();
     steps_from(config, words)
 }
 
@@ -285,15 +328,15 @@ fn compare_trace(config: Config, trace: &[u32]) -> Outcome {
 }
 
 fn compare_all() -> Result<String, String> {
-    let configs = configs()? + mins_and_values()?;
-    let words = window_words()?;
+    let configs = configs()? + mins_and_values()? + severities()?;
+    let words = window_words()? + stopped_words()?;
     let mut counts = [0; 3];
-    for config in small_configs().into_iter().chain(small_windows()) {
+    for config in small_configs().into_iter().chain(small_windows()).flat_map(both) {
         for (count, compare) in counts.iter_mut().zip([steps, traces, rechecks]) {
             *count += compare(config)?;
         }
     }
-    for config in longest_windows() {
+    for config in longest_windows().into_iter().flat_map(both) {
         counts[0] += longest_steps(config)?;
     }
     let [steps, traces, rechecks] = counts;

@@ -1,6 +1,6 @@
 //! What the run has covered: how many cases each call, kind, mark, refusal and situation had. A run that missed one fails.
 
-use crate::windows;
+use crate::{fatal, windows};
 use std::collections::BTreeMap;
 use std::ops::RangeInclusive;
 
@@ -63,7 +63,7 @@ const KINDS: RangeInclusive<u8> = 0..=8;
 pub const NO_KIND: u8 = 9;
 
 /// The situations that every run has to meet, besides calls, kinds, marks and refusals.
-const SITUATIONS: [&str; 74] = [
+const SITUATIONS: [&str; 83] = [
     "check of 0 cycles",
     "check of 1 cycle",
     "check of 65,536 cycles",
@@ -100,6 +100,15 @@ const SITUATIONS: [&str; 74] = [
     "first failure refused 65,537 cycles",
     "bench, several bad checkers",
     "bench, bad checker last of 64",
+    "bench, fatal checkers beside others",
+    "bench, a fatal checker fails, and another one",
+    "bench, stopped checkers beside others",
+    "bench, severity refused",
+    "bench, 2^63 refused",
+    "severity refused, 2",
+    "severity refused, 255",
+    "severity refused, ports or value bad too",
+    "kind refused, severity bad too",
     "kind 9 refused",
     "min refused, one above max",
     "min refused, kinds 0 to 6",
@@ -146,7 +155,7 @@ pub struct Tally {
     kinds: BTreeMap<(Call, u8), u64>,
     marks: BTreeMap<(Call, u8, u32), u64>,
     situations: BTreeMap<&'static str, u64>,
-    windows: BTreeMap<(u8, &'static str), u64>,
+    of_kinds: BTreeMap<(u8, &'static str), u64>,
     checkers: BTreeMap<(Call, usize), u64>,
 }
 
@@ -178,9 +187,9 @@ impl Tally {
         *self.situations.entry(name).or_default() += u64::from(met);
     }
 
-    /// A situation of a window; each is counted for every kind that has it.
-    pub fn window(&mut self, kind: u8, name: &'static str, met: bool) {
-        *self.windows.entry((kind, name)).or_default() += u64::from(met);
+    /// A situation of a window or of a fatal checker; each is counted for every kind that has it.
+    pub fn of_kind(&mut self, kind: u8, name: &'static str, met: bool) {
+        *self.of_kinds.entry((kind, name)).or_default() += u64::from(met);
     }
 
     fn cases(&self, call: Call) -> u64 {
@@ -209,8 +218,8 @@ impl Tally {
         for (name, count) in &self.situations {
             println!("{count:>9}  {name}");
         }
-        println!("\nchecks with such a window:");
-        for ((kind, name), count) in &self.windows {
+        println!("\nsituations by kind:");
+        for ((kind, name), count) in &self.of_kinds {
             println!("{count:>9}  kind {kind}, {name}");
         }
     }
@@ -244,9 +253,9 @@ impl Tally {
         }
         let not_met = SITUATIONS.iter().filter(|name| self.situations.get(*name).copied().unwrap_or(0) == 0);
         missed.extend(not_met.map(|name| name.to_string()));
-        for (kind, name, least) in windows::all_situations() {
-            if self.windows.get(&(kind, name)).copied().unwrap_or(0) < least {
-                missed.push(format!("window of kind {kind}: {name}"));
+        for (kind, name, least) in windows::all_situations().chain(fatal::all_situations()) {
+            if self.of_kinds.get(&(kind, name)).copied().unwrap_or(0) < least {
+                missed.push(format!("kind {kind}: {name}"));
             }
         }
         for call in [FirstFailure, Bench] {

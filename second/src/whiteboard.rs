@@ -1,7 +1,7 @@
 //! The whiteboard table of document 01 and the examples under it. The numbers are the document's, but for the rows of case
 //! H, which §2 of document 02 changes: "Case H becomes 4 0 20 0 20 0, same words." A second table has cases of kinds 7 and 8,
-//! worked by hand from the sentences of §4, and a third has the longest windows, from those of §5. The library and the rules
-//! are both held against them.
+//! worked by hand from the sentences of §4, a third has the longest windows, from those of §5, and a fourth fatal checkers,
+//! from those of §7. The library and the rules are both held against them.
 
 use crate::generate::{wire, UNUSED};
 use crate::host;
@@ -11,6 +11,8 @@ use std::fmt::Debug;
 type Outcome = Result<(), String>;
 
 const STORED: u64 = 1 << 32;
+/// The word of a fatal checker from its failing cycle on.
+const S: u64 = 1 << 63;
 
 fn is<T: PartialEq + Debug>(what: &str, given: T, due: T) -> Outcome {
     if given == due {
@@ -42,23 +44,28 @@ fn line(name: &'static str, config: Config, trace: Vec<u32>, rows: &[u32], words
 const THREE_WIRES: Range = Range { left: 2, right: 0 };
 
 fn sequence(kind: u8, n: u32, left: u8, right: u8) -> Config {
-    Config { kind, n, p: Range { left, right }, q: UNUSED, r: UNUSED, min: 0, value: 0 }
+    Config { kind, n, p: Range { left, right }, q: UNUSED, r: UNUSED, min: 0, value: 0, severity: 0 }
 }
 
 fn time(kind: u8, n: u32) -> Config {
-    Config { kind, n, p: wire(0), q: wire(0), r: UNUSED, min: 0, value: 0 }
+    Config { kind, n, p: wire(0), q: wire(0), r: UNUSED, min: 0, value: 0, severity: 0 }
 }
 
 fn transition() -> Config {
-    Config { kind: 6, n: 0, p: THREE_WIRES, q: THREE_WIRES, r: THREE_WIRES, min: 0, value: 0 }
+    Config { kind: 6, n: 0, p: THREE_WIRES, q: THREE_WIRES, r: THREE_WIRES, min: 0, value: 0, severity: 0 }
 }
 
 fn value(min: u32, max: u32, value: u32) -> Config {
-    Config { kind: 7, n: max, p: THREE_WIRES, q: wire(0), r: UNUSED, min, value }
+    Config { kind: 7, n: max, p: THREE_WIRES, q: wire(0), r: UNUSED, min, value, severity: 0 }
 }
 
 fn stability(min: u32, max: u32) -> Config {
-    Config { kind: 8, n: max, p: THREE_WIRES, q: wire(0), r: UNUSED, min, value: 0 }
+    Config { kind: 8, n: max, p: THREE_WIRES, q: wire(0), r: UNUSED, min, value: 0, severity: 0 }
+}
+
+/// The same checker with severity 1.
+fn fatal(config: Config) -> Config {
+    Config { severity: 1, ..config }
 }
 
 /// Frames with reset_n 1; a port without samples is 0.
@@ -89,8 +96,12 @@ fn sequence_lines() -> Vec<Line> {
     ]
 }
 
+/// The samples of G, H and I.
+fn g() -> Vec<u32> {
+    frames(&[1, 0, 1, 0, 1, 0], &[0, 1, 0, 1, 1, 1], &[])
+}
+
 fn other_lines() -> Vec<Line> {
-    let g = || frames(&[1, 0, 1, 0, 1, 0], &[0, 1, 0, 1, 1, 1], &[]);
     vec![
         line("G", time(3, 3), g(), &[4, 0, 1, 8, 4, 0], &[3, 2, 1, 0, 3, 2]),
         line("H", time(4, 3), g(), &[4, 0, 20, 0, 20, 0], &[3, 2, 3, 2, 3, 2]),
@@ -565,6 +576,292 @@ fn longest() -> Result<usize, String> {
     Ok(lines.len())
 }
 
+/// The frames with reset_n 0 in cycle t.
+fn with_reset(mut trace: Vec<u32>, t: usize) -> Vec<u32> {
+    trace[4 * t] &= !1;
+    trace
+}
+
+/// A case of a fatal checker, with its failure list.
+struct Fatal {
+    line: Line,
+    list: &'static [u32],
+}
+
+fn fatal_line(
+    name: &'static str,
+    config: Config,
+    trace: Vec<u32>,
+    rows: &[u32],
+    words: &[u64],
+    list: &'static [u32],
+) -> Fatal {
+    Fatal { line: line(name, fatal(config), trace, rows, words), list }
+}
+
+/// Cases of cycle sequences and transitions in the whiteboard table, with severity 1. Rows and words are those of the table up
+/// to the first cycle with mark 1 or 2, and this row too; from its word on, words are 2^63, and later rows are 0.
+///
+/// A: no attempt fails, so all stay, also the words of two open attempts.
+/// C: fails in the last cycle, where a start is seen too: row 5.
+/// D: the start of cycle 5 comes after the failure of cycle 4.
+/// E: 5 in cycle 2 has bit 0, which the attempt of cycle 0 needs, and not bit 1, which that of cycle 1 needs; and a start.
+///    What becomes of this start, and of those of cycles 3 to 5, is not listed.
+/// F: under kind 0 only the attempt of cycle 0 fails in the last cycle, under kind 1 that of cycle 1 too.
+/// L: the check of cycle 0 fails in cycle 1, which is a start again: row 5. What it stores is not in the word.
+fn fatal_sequence_lines() -> Vec<Fatal> {
+    let d = || frames(&D, &[], &[]);
+    let a = || frames(&A, &[], &[]);
+    let f = || frames(&[4, 6, 0], &[], &[]);
+    let l = frames(&[3, 3], &[3, 3], &[4, 4]);
+    vec![
+        fatal_line("A", sequence(1, 4, 3, 0), a(), &[4, 0, 4, 0, 0, 0], &[1, 2, 5, 2, 4, 0], &[]),
+        fatal_line("C", sequence(1, 4, 0, 3), a(), &[0, 0, 0, 4, 0, 5], &[0, 0, 0, 1, 2, S], &[5, 1, 3]),
+        fatal_line("D", sequence(2, 3, 2, 0), d(), &[4, 0, 0, 4, 1, 0], &[1, 2, 0, 1, S, S], &[4, 1, 3]),
+        fatal_line("E", sequence(1, 3, 2, 0), d(), &[4, 4, 5, 0, 0, 0], &[1, 3, S, S, S, S], &[2, 1, 1]),
+        fatal_line("F", sequence(0, 3, 2, 0), f(), &[0, 4, 1], &[1, 3, S], &[2, 1, 0]),
+        fatal_line("F, kind 1", sequence(1, 3, 2, 0), f(), &[4, 4, 1], &[1, 3, S], &[2, 1, 0, 2, 1, 1]),
+        fatal_line("L", transition(), l, &[4, 5], &[STORED + 4, S], &[1, 1, 0]),
+    ]
+}
+
+/// Time checks with severity 1: H and I of the whiteboard table, and four more.
+///
+/// H: restarts are no failure, and take no test: all stays.
+/// I: test 0 and a start in cycle 2, which is pending: a failure and an illegal start, both listed with start 0.
+/// AA: the test is 1 where it is taken; the start of cycle 2 stops the checker alone. That of cycle 3 would be illegal too.
+/// AB: fails in cycle 1. The reset of cycle 3 does not revive it, so that the start of cycle 4 is not seen.
+/// AC: the reset of cycle 1 ends the check before its test 0 is taken. The check of cycle 2 fails in s+n: 1 and 8.
+/// AD: n 1; the failure of cycle 1 closes the window. The start in it is illegal: 1, 2 and 8.
+fn fatal_time_lines() -> Vec<Fatal> {
+    let aa = frames(&[1, 0, 1, 1, 0, 1], &[0, 1, 1, 1, 1, 0], &[]);
+    let ab = with_reset(frames(&[1, 0, 0, 1, 1, 0], &[0, 0, 1, 1, 1, 0], &[]), 3);
+    let ac = with_reset(frames(&[1, 0, 1, 0, 0, 0], &[1, 0, 1, 1, 0, 0], &[]), 1);
+    let ad = frames(&[1, 1, 1], &[0, 0, 0], &[]);
+    vec![
+        fatal_line("H", time(4, 3), g(), &[4, 0, 20, 0, 20, 0], &[3, 2, 3, 2, 3, 2], &[]),
+        fatal_line("I", time(5, 3), g(), &[4, 0, 3, 0, 0, 0], &[3, 2, S, S, S, S], &[2, 1, 0, 2, 2, 0]),
+        fatal_line("AA", time(5, 3), aa, &[4, 0, 2, 0, 0, 0], &[3, 2, S, S, S, S], &[2, 2, 0]),
+        fatal_line("AB", time(3, 2), ab, &[4, 1, 0, 0, 0, 0], &[2, S, S, S, S, S], &[1, 1, 0]),
+        fatal_line("AC", time(3, 2), ac, &[4, 0, 4, 0, 9, 0], &[2, 0, 2, 1, S, S], &[4, 1, 2]),
+        fatal_line("AD", time(5, 1), ad, &[4, 11, 0], &[1, S, S], &[1, 1, 0, 1, 2, 0]),
+    ]
+}
+
+/// Checks after a trigger with severity 1.
+///
+/// AE: wrong in cycles 1 and 3 of the window; the second is not seen, and no mark 8 comes.
+/// AF: windows of one cycle: 4 and 8 in cycle 0; in cycle 1 the value is wrong as well. The trigger of cycle 2 is not seen.
+/// AG: min 0 and wrong in the trigger cycle itself, cycle 0.
+/// AH: the reference is the 3 of cycle 0. In cycle 2 another value; one cycle would be left.
+/// AI: min = max: the one cycle tested gives the reference, so that nothing can fail.
+fn fatal_window_lines() -> Vec<Fatal> {
+    // The reference 3 with 3 cycles left, and with 2: 2^48 + 3 × 2^16 + 3, and one less.
+    let held = [281_474_976_907_267, 281_474_976_907_266];
+    let ae = window_frames([&[1; 5], &[1, 0, 0, 0, 0], &[5, 4, 5, 7, 4]]);
+    let af = window_frames([&[1; 4], &[1, 1, 1, 0], &[5, 4, 5, 4]]);
+    let ag = window_frames([&[1; 3], &[1, 0, 1], &[4, 5, 4]]);
+    let ah = window_frames([&[1; 5], &[1, 0, 1, 0, 1], &[3, 3, 2, 3, 2]]);
+    let ai = window_frames([&[1; 5], &[1, 0, 0, 1, 0], &[1, 2, 3, 4, 5]]);
+    vec![
+        fatal_line("AE", value(1, 3, 5), ae, &[4, 1, 0, 0, 0], &[3, S, S, S, S], &[1, 1, 0]),
+        fatal_line("AF", value(0, 0, 5), af, &[12, 13, 0, 0], &[0, S, S, S], &[1, 1, 1]),
+        fatal_line("AG", value(0, 2, 5), ag, &[5, 0, 0], &[S, S, S], &[0, 1, 0]),
+        fatal_line("AH", stability(0, 3), ah, &[4, 0, 1, 0, 0], &[held[0], held[1], S, S, S], &[2, 1, 0]),
+        fatal_line("AI", stability(2, 2), ai, &[4, 0, 8, 4, 0], &[2, 1, 0, 2, 1], &[]),
+    ]
+}
+
+/// The last cycle of 65,536 stops the checker, or the second does and it stays so. The windows are those of S, V and X, and of
+/// the longest lists.
+fn fatal_longest_lines() -> Vec<Fatal> {
+    let stopped_last = |mut words: Vec<u64>| {
+        words[65_535] = S;
+        words
+    };
+    let stopped = |word: u64| [vec![word], vec![S; 65_535]].concat();
+    let (last, second) = (long_rows(&[(0, 4), (65_535, 9)]), long_rows(&[(0, 4), (1, 1)]));
+    let mut lines = Vec::new();
+    for kind in 3..=5 {
+        let late = long_frames(QUIET, &[(0, START), (65_535, TEST_0)]);
+        let early = long_frames(TEST_0, &[(0, START)]);
+        let config = time(kind, 65_535);
+        lines.push(fatal_line("S", config, late, &last, &stopped_last(countdown()), &[65_535, 1, 0]));
+        lines.push(fatal_line("stopped in cycle 1", config, early, &second, &stopped(65_535), &[1, 1, 0]));
+    }
+    let held = held_countdown(5, 0)[0];
+    for (config, name, words, early) in [
+        (value(0, 65_535, 5), "V, min 0", countdown(), 65_535),
+        (stability(0, 65_535), "X, min 0", held_countdown(5, 0), held),
+    ] {
+        let late = long_frames(FIVE, &[(0, trigger(5)), (65_535, FOUR)]);
+        lines.push(fatal_line(name, config, late, &last, &stopped_last(words), &[65_535, 1, 0]));
+        let trace = long_frames(FOUR, &[(0, trigger(5))]);
+        lines.push(fatal_line("stopped in cycle 1", config, trace, &second, &stopped(early), &[1, 1, 0]));
+    }
+    lines
+}
+
+/// Edits that take the failure away, put it off, or bring an earlier one.
+fn fatal_rechecks() -> Outcome {
+    // Kind 5, n 2, test 0 in cycle 1, made 1: the window closes in cycle 2, the next opens in cycle 3, and the start of cycle 4
+    // is illegal in it. There both are stopped, so e is 5. Then the test is made 0 again.
+    let trace = |test| frames(&[1, 0, 0, 1, 1, 0], &[1, test, 1, 1, 1, 1], &[]);
+    let edit = |trace| Edit { config: fatal(time(5, 2)), trace, a: 1, b: 2 };
+    let (wrong, right) = (trace(0), trace(1));
+    check_recheck(&edit(&right), &wrong, &[4, 0, 8, 4, 2, 0], &[2, 1, 0, 2, S, S], [5, -1, 1, 1, 1, 0])?;
+    check_recheck(&edit(&wrong), &right, &[4, 1, 0, 0, 0, 0], &[2, S, S, S, S, S], [5, 1, -1, -1, -1, 0])?;
+
+    // Kind 4, n 2, the same edit: cycle 2 restarts the window, which closes in cycle 4, and nothing fails any more. No word is
+    // as it was, so e is N, where b+n is 4.
+    let trace = |test| frames(&[1, 0, 1, 0, 0, 0], &[1, test, 1, 1, 1, 1], &[]);
+    let edit = |trace| Edit { config: fatal(time(4, 2)), trace, a: 1, b: 2 };
+    let (wrong, right) = (trace(0), trace(1));
+    check_recheck(&edit(&right), &wrong, &[4, 0, 20, 0, 8, 0], &[2, 1, 2, 1, 0, 0], [6, -1, 0, 1, 1, 1])?;
+    check_recheck(&edit(&wrong), &right, &[4, 1, 0, 0, 0, 0], &[2, S, S, S, S, S], [6, 1, 0, -1, -1, -1])?;
+
+    // Kind 3, n 2: a reset in the failing cycle ends the check instead.
+    let old = frames(&[1, 0, 0, 0], &[1, 0, 1, 1], &[]);
+    let new = with_reset(old.clone(), 1);
+    let edit = Edit { config: fatal(time(3, 2)), trace: &new, a: 1, b: 2 };
+    check_recheck(&edit, &old, &[4, 0, 0, 0], &[2, 0, 0, 0], [4, -1, 0, 0, 0, 0])
+}
+
+/// An edit that brings an earlier failure, one after the failure, and one in its cycle, of kind 1 with n 3.
+fn fatal_sequence_rechecks() -> Outcome {
+    let config = fatal(sequence(1, 3, 2, 0));
+    let samples = |samples: &[u32]| frames(samples, &[], &[]);
+
+    // The attempt of cycle 0 passes and that of cycle 3 fails in cycle 4; then the first fails in cycle 1. In cycle 4 both are
+    // stopped: e is 5, where b+n−1 is 4. The mark 4 of cycle 3 is gone.
+    let (old, new) = (samples(&[4, 2, 1, 4, 0, 4]), samples(&[4, 0, 1, 4, 0, 4]));
+    are("words before the edit", &rules::true_record(config, &old).words, &[1, 2, 0, 1, S, S])?;
+    let edit = Edit { config, trace: &new, a: 1, b: 2 };
+    check_recheck(&edit, &old, &[4, 1, 0, 0, 0, 0], &[1, S, S, S, S, S], [5, 0, 0, -1, 0, 0])?;
+
+    // After the failure, a reset, and a start behind it that would fail in cycle 5: nothing changes, and e is b.
+    let later = with_reset(samples(&[4, 0, 1, 4, 4, 4]), 3);
+    let edit = Edit { config, trace: &later, a: 3, b: 5 };
+    check_recheck(&edit, &new, &[4, 1, 0, 0, 0, 0], &[1, S, S, S, S, S], [5, 0, 0, 0, 0, 0])?;
+
+    // E without the start of its failing cycle: it still fails there.
+    let (old, new) = (samples(&D), samples(&[4, 6, 1, 4, 4, 4]));
+    let edit = Edit { config, trace: &new, a: 2, b: 3 };
+    check_recheck(&edit, &old, &[4, 4, 1, 0, 0, 0], &[1, 3, S, S, S, S], [3, 0, 0, -1, 0, 0])
+}
+
+/// The start of S taken away and put back, with severity 1: of the words, only that before cycle 0 is the same.
+fn fatal_longest_recheck() -> Outcome {
+    let with = long_frames(QUIET, &[(0, START), (65_535, TEST_0)]);
+    let without = long_frames(QUIET, &[(65_535, TEST_0)]);
+    let (rows, mut words) = (long_rows(&[(0, 4), (65_535, 9)]), countdown());
+    words[65_535] = S;
+    let edit = |trace| Edit { config: fatal(time(3, 65_535)), trace, a: 0, b: 1 };
+    check_recheck(&edit(&without), &with, &long_rows(&[]), &[0; 65_536], [65_536, -1, 0, -1, -1, 0])?;
+    check_recheck(&edit(&with), &without, &rows, &words, [65_536, 1, 0, 1, 1, 0])
+}
+
+/// One right configuration of every kind, of which each can fail.
+fn one_of_each_kind() -> Vec<Config> {
+    let sequences = (0..=2).map(|kind| sequence(kind, 4, 3, 0));
+    let others = [time(3, 3), time(4, 3), time(5, 3), transition(), value(1, 3, 5), stability(1, 3)];
+    sequences.chain(others).collect()
+}
+
+/// "0 goes on, 1 is fatal, else refusal 2": after the kind and before ports and value.
+fn fatal_limits() -> Outcome {
+    let mut limits = Vec::new();
+    for config in one_of_each_kind() {
+        let index = Range { left: 32, right: 32 };
+        for (severity, right, bad_ports) in [(0, 0, 3), (1, 0, 3), (2, 2, 2), (3, 2, 2), (128, 2, 2), (255, 2, 2)] {
+            let config = Config { severity, ..config };
+            limits.extend([(config, right), (Config { p: index, ..config }, bad_ports)]);
+            limits.extend([(Config { value: 8, ..config }, bad_ports), (Config { n: 65_536, ..config }, 2)]);
+            limits.extend([(Config { kind: 9, ..config }, 1), (Config { kind: 255, p: index, ..config }, 1)]);
+        }
+    }
+    check_limits(limits)
+}
+
+/// "2^63 is possible exactly for a fatal checker that can fail (all but kind 8 with min equal to max); its open count is 0":
+/// 1792 is refusal 7.
+fn fatal_words() -> Outcome {
+    let mut counts = vec![
+        (fatal(stability(0, 0)), S, 1792),
+        (fatal(stability(3, 3)), S, 1792),
+        (fatal(stability(65_535, 65_535)), S, 1792),
+        (fatal(stability(65_534, 65_535)), S, 0),
+        (fatal(stability(0, 1)), S, 0),
+        (fatal(value(0, 0, 5)), S, 0),
+        (fatal(value(65_535, 65_535, 5)), S, 0),
+        // Open words are possible as before.
+        (fatal(sequence(1, 4, 3, 0)), 5, 2),
+        (fatal(sequence(1, 4, 3, 0)), 8, 1792),
+        (fatal(time(3, 3)), 3, 1),
+        (fatal(transition()), STORED + 7, 1),
+        (fatal(stability(3, 3)), 3, 1),
+    ];
+    for config in one_of_each_kind() {
+        counts.extend([(config, S, 1792), (fatal(config), S, 0), (fatal(config), 0, 0)]);
+        counts.extend([S + 1, S - 1, S >> 1, S + 3, S + STORED].map(|word| (fatal(config), word, 1792)));
+    }
+    check_counts(counts)
+}
+
+/// From 2^63 a step gives row 0 and 2^63, whatever the frame is, where this word is possible.
+fn fatal_steps() -> Outcome {
+    let mut steps = vec![(fatal(stability(3, 3)), 1792)];
+    for config in one_of_each_kind() {
+        steps.extend([(fatal(config), 0), (config, 1792)]);
+    }
+    let all = u32::MAX;
+    let frames = [[0, 0, 0, 0], [!1, all, all, all], [1, 0, 0, 0], [3, all, all, 0], [3, 8, 1, 1]];
+    for ((config, due), frame) in steps.into_iter().flat_map(|step| frames.map(|frame| (step, frame))) {
+        let (mut by_host, mut by_rules) = (S.to_le_bytes(), S.to_le_bytes());
+        is(&format!("{config:?}, {frame:x?} by the library"), host::step(config, frame, &mut by_host)?, due)?;
+        is(&format!("{config:?}, {frame:x?} by the rules"), rules::step(config, frame, &mut by_rules), due)?;
+        is(&format!("words of {config:?}, {frame:x?}"), [by_host, by_rules].map(u64::from_le_bytes), [S, S])?;
+    }
+    Ok(())
+}
+
+/// Test 0 with two pending cycles left, going on and fatal; the latter stopped already; and an illegal start, test 1.
+fn fatal_bench() -> Outcome {
+    let table = [time(3, 2), fatal(time(3, 2)), fatal(time(3, 2)), fatal(time(5, 2)), time(5, 2)];
+    let frames = [TEST_0, TEST_0, START, START_TEST_1, START_TEST_1].concat();
+    for by_host in [true, false] {
+        let (mut words, mut rows) = ([2, 2, S, 2, 2], [99; 5]);
+        let answer = if by_host {
+            host::bench(&table, &frames, &mut words, &mut rows)?
+        } else {
+            rules::bench(&table, &frames, &mut words, &mut rows)
+        };
+        is("answer", answer, 0)?;
+        are("rows", &rows, &[1, 1, 0, 2, 2])?;
+        are("words", &words, &[1, S, S, S, 1])?;
+    }
+    Ok(())
+}
+
+/// Fatal checkers; the answer is how many cases there are in their tables.
+fn fatal_checkers() -> Result<usize, String> {
+    fatal_limits().map_err(|d| format!("limits of severity: {d}"))?;
+    fatal_words().map_err(|d| format!("words of fatal checkers: {d}"))?;
+    fatal_steps().map_err(|d| format!("steps from 2^63: {d}"))?;
+    let tables = [fatal_sequence_lines(), fatal_time_lines(), fatal_window_lines(), fatal_longest_lines()];
+    let lines: Vec<Fatal> = tables.into_iter().flatten().collect();
+    for Fatal { line, list } in &lines {
+        check_line(line)
+            .and_then(|()| check_list(line.config, &line.trace, list))
+            .map_err(|d| format!("case {} of fatal checkers, kind {}: {d}", line.name, line.config.kind))?;
+    }
+    fatal_rechecks().map_err(|d| format!("rechecks of fatal checkers: {d}"))?;
+    fatal_sequence_rechecks().map_err(|d| format!("rechecks of fatal checkers, kind 1: {d}"))?;
+    fatal_longest_recheck().map_err(|d| format!("recheck of a fatal checker with the longest window: {d}"))?;
+    fatal_bench().map_err(|d| format!("bench with fatal checkers: {d}"))?;
+    Ok(lines.len())
+}
+
 /// What was compared, in words.
 pub fn compare() -> Result<String, String> {
     let document: Vec<Line> = sequence_lines().into_iter().chain(other_lines()).collect();
@@ -579,10 +876,11 @@ pub fn compare() -> Result<String, String> {
     window_recheck().map_err(|d| format!("recheck of kind 7: {d}"))?;
     window_limits().map_err(|d| format!("limits of kinds 7 and 8: {d}"))?;
     window_words().map_err(|d| format!("words of kinds 7 and 8: {d}"))?;
-    let (document, windows, longest) = (document.len(), windows.len(), longest()?);
+    let (document, windows, longest, fatal) = (document.len(), windows.len(), longest()?, fatal_checkers()?);
     Ok(format!(
         "whiteboard table: {document} cases and the examples under it, all as in the document\n\
          kinds 7 and 8: {windows} cases, a recheck, limits and words, all as worked by hand\n\
-         longest windows: {longest} cases, lists, rechecks, limits and words, all as worked by hand"
+         longest windows: {longest} cases, lists, rechecks, limits and words, all as worked by hand\n\
+         fatal checkers: {fatal} cases, lists, rechecks, a bench, limits, words and steps, all as worked by hand"
     ))
 }

@@ -169,19 +169,20 @@ pub fn tally_windows(tally: &mut Tally, config: Config, trace: &[u32], rows: &[u
     }
     let windows = windows(config, trace, rows);
     for situation in SITUATIONS.iter().filter(|situation| situation.kinds.contains(&config.kind)) {
-        tally.window(config.kind, situation.name, windows.iter().any(situation.is_met));
+        tally.of_kind(config.kind, situation.name, windows.iter().any(situation.is_met));
     }
 }
 
-/// The longest windows of a checked trace: mark 8 stands in the last cycle of a window, and mark 1 there is its failure.
+/// The longest windows of a checked trace: mark 8 stands in the last cycle of a window, and mark 1 there is its failure. Those
+/// of fatal checkers are counted apart.
 pub fn tally_longest(tally: &mut Tally, config: Config, rows: &[u32]) {
-    if !config.has_window() {
+    if !config.has_window() || config.is_fatal() {
         return;
     }
     let is_met = |marks: u32| config.n == LONGEST_WINDOW && rows.iter().any(|row| row & 9 == marks);
-    tally.window(config.kind, LONGEST_FAILED, is_met(9));
-    tally.window(config.kind, LONGEST_PASSED, is_met(8));
-    tally.window(config.kind, LONGEST_CLOSED, is_met(9) || is_met(8));
+    tally.of_kind(config.kind, LONGEST_FAILED, is_met(9));
+    tally.of_kind(config.kind, LONGEST_PASSED, is_met(8));
+    tally.of_kind(config.kind, LONGEST_CLOSED, is_met(9) || is_met(8));
 }
 
 /// The word of a step, of an open count or before a recheck, at the limits of the possible words and just beyond them.

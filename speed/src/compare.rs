@@ -1,6 +1,6 @@
 //! Whether the proved library answers every call that is timed as ordinary Rust does.
 use crate::engine::{Answer, Engine, Plain, Record};
-use crate::inputs::{cut, kept_rows, list_trace, Call, Input, BENCH, CYCLES, LIST};
+use crate::inputs::{cut, kept_rows, Call, Input, BENCH, CYCLES, LIST};
 use crate::plain::{Config, Range, FAILURE, ILLEGAL, MOST_PIPE, OPENED};
 use crate::proved::Library;
 
@@ -10,10 +10,10 @@ pub fn compare(library: &Library, input: &Input) -> Result<(), String> {
         return compare_bench(library, &input.checkers, trace);
     }
     for (k, config) in input.checkers.iter().enumerate() {
-        let own = cut(trace, k, CYCLES);
+        let own = &input.frames(k)[..];
         let compared = match input.call {
             Call::Recheck => compare_recheck(library, config, own, &kept_rows(config, trace, k)),
-            Call::List { one_in } => compare_list(library, config, &list_trace(config, one_in)),
+            Call::List | Call::OwnList { .. } => compare_list(library, config, own),
             _ => compare_check(library, config, own).map(|_| ()),
         };
         compared.map_err(|difference| format!("checker {k}, {difference}"))?;

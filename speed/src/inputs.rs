@@ -1,7 +1,9 @@
 //! What is timed: the traces, made from a seed, and the checkers that run over them.
 use crate::engine::{Engine, Plain, Record};
-use crate::plain::{self, Config, Port, Range, ENABLE, FAILURE, ILLEGAL};
+use crate::plain::{self, fails, Config, Port, Range, ENABLE, FATAL, GOES_ON, STOPPED};
+use std::borrow::Cow;
 use std::rc::Rc;
+use std::slice;
 
 pub const SEED: u64 = 0x5e17_ed6e_2026;
 pub const CYCLES: usize = 65_536;
@@ -24,13 +26,24 @@ const TRACKED_VALUES: [u32; 4] = [0x17, 0x16, 0x57, 0x68];
 /// So many frames are drawn for a failure that is due, before it waits for the next cycle.
 const MOST_DRAWS: u32 = 64;
 
+/// So many frames are drawn for a cycle without a failure, before it is one in reset.
+const DRAWS_TO_RESET: u32 = 1024;
+
+/// When a fatal checker fails first: never, soon after the middle of its trace, or soon after the beginning.
+const FIRST_FAILURES: [&str; 3] = ["none", "middle", "early"];
+const MIDDLE: usize = CYCLES / 2;
+
+const BESIDE_RUST: [&str; 2] = ["proved ns/step", "plain ns/step"];
+const RECHECKS: [&str; 2] = ["recheck ns", "full check ns"];
+const LISTS: [&str; 2] = ["list pass ns", "full check ns"];
+
 /// The inputs that are held against the same yardstick, and the names of the columns of time and yardstick.
 pub struct Table {
     pub columns: [&'static str; 2],
     pub inputs: Vec<Input>,
 }
 
-/// One row of a table. The trace is that of all checkers, but for a failure list.
+/// One row of a table. The trace is that of all checkers, but for `Call::OwnList`.
 pub struct Input {
     pub name: String,
     pub call: Call,
@@ -46,12 +59,38 @@ pub enum Call {
     Bench,
     /// A recheck for each checker, on the cycles of its full check. It starts from a false record and goes through them all.
     Recheck,
+    /// The failure list for each checker, on the cycles of its full check.
+    List,
     /// The failure list for each checker, on a trace of its own where one of so many cycles fails, or none does.
-    List { one_in: Option<u32> },
+    OwnList { one_in: Option<u32> },
+}
+
+impl Input {
+    /// The frames of checker k's cycles.
+    pub fn frames(&self, k: usize) -> Cow<'_, [u32]> {
+        match self.call {
+            Call::OwnList { one_in } => list_trace(&self.checkers[k], one_in).into(),
+            _ => cut(&self.trace, k, CYCLES).into(),
+        }
+    }
+
+    /// The share of all checkers' cycles that leave their checker stopped, where one is fatal.
+    pub fn stopped(&self) -> Option<f64> {
+        if self.checkers.iter().all(|config| config.severity != FATAL) {
+            return None;
+        }
+        let mut record = Record::new(CYCLES);
+        let mut stopped = 0;
+        for (k, config) in self.checkers.iter().enumerate() {
+            Plain.full_check(config, &self.frames(k), &mut record).expect("every input's configuration is good");
+            stopped += record.words.iter().filter(|word| **word == STOPPED).count();
+        }
+        Some(stopped as f64 / (CYCLES * self.checkers.len()) as f64)
+    }
 }
 
 /// For each call, each kind alone and then 64 checkers of mixed kinds; a bench step for these 64 only. Full checks also on
-/// buses of several widths.
+/// buses of several widths. Then all but these once more, with fatal checkers.
 pub fn tables() -> Vec<Table> {
     let trace: Rc<[u32]> = trace().into();
     let input = |name, call, checkers| Input { name, call, checkers, trace: trace.clone() };
@@ -66,15 +105,56 @@ pub fn tables() -> Vec<Table> {
     let mut checks = each_alone("", Call::FullCheck);
     checks.push(input("64 mixed, full check".into(), Call::FullCheck, mixed()));
     checks.push(input("64 mixed, bench step".into(), Call::Bench, mixed()));
-    let mut lists = all("list, none, ", Call::List { one_in: None });
-    lists.extend(all("list, 1 in 16, ", Call::List { one_in: Some(16) }));
-    let beside_rust = ["proved ns/step", "plain ns/step"];
+    let mut lists = all("list, none, ", Call::OwnList { one_in: None });
+    lists.extend(all("list, 1 in 16, ", Call::OwnList { one_in: Some(16) }));
+    let mut tables = vec![
+        Table { columns: BESIDE_RUST, inputs: checks },
+        Table { columns: BESIDE_RUST, inputs: bus_inputs() },
+        Table { columns: RECHECKS, inputs: all("recheck, ", Call::Recheck) },
+        Table { columns: LISTS, inputs: lists },
+    ];
+    tables.extend(fatal_tables(&trace));
+    tables
+}
+
+/// The same checkers, all fatal, each on a trace for each of `FIRST_FAILURES`.
+fn fatal_tables(usual: &Rc<[u32]>) -> Vec<Table> {
+    let alone = alone().into_iter().map(|(name, checker)| (name, vec![checker]));
+    let groups: Vec<Fatal> =
+        alone.chain([("64 mixed".into(), mixed())]).map(|(name, checkers)| Fatal::new(name, checkers, usual)).collect();
+    let inputs = |title: &str, call, groups: &[Fatal]| -> Vec<Input> {
+        (0..FIRST_FAILURES.len()).flat_map(|first| groups.iter().map(move |group| group.input(title, call, first))).collect()
+    };
+    let mixed = &groups[groups.len() - 1..];
+    let mut checks = inputs("fatal", Call::FullCheck, &groups);
+    checks.extend(inputs("fatal bench step", Call::Bench, mixed));
     vec![
-        Table { columns: beside_rust, inputs: checks },
-        Table { columns: beside_rust, inputs: bus_inputs() },
-        Table { columns: ["recheck ns", "full check ns"], inputs: all("recheck, ", Call::Recheck) },
-        Table { columns: ["list pass ns", "full check ns"], inputs: lists },
+        Table { columns: BESIDE_RUST, inputs: checks },
+        Table { columns: RECHECKS, inputs: inputs("fatal recheck", Call::Recheck, &groups) },
+        Table { columns: LISTS, inputs: inputs("fatal list", Call::List, &groups) },
     ]
+}
+
+/// Fatal checkers, and their trace for each of `FIRST_FAILURES`.
+struct Fatal {
+    name: String,
+    checkers: Vec<Config>,
+    traces: [Rc<[u32]>; FIRST_FAILURES.len()],
+}
+
+impl Fatal {
+    /// On the usual trace every checker fails early, so behind a quiet half it fails soon as well.
+    fn new(name: String, mut checkers: Vec<Config>, usual: &Rc<[u32]>) -> Self {
+        checkers.iter_mut().for_each(|config| config.severity = FATAL);
+        let quiet = quiet_trace(&checkers);
+        let middle = [&quiet[..4 * MIDDLE], &usual[4 * MIDDLE..]].concat();
+        Fatal { name, checkers, traces: [quiet.into(), middle.into(), usual.clone()] }
+    }
+
+    fn input(&self, title: &str, call: Call, first_failure: usize) -> Input {
+        let name = format!("{title}, {}, {}", FIRST_FAILURES[first_failure], self.name);
+        Input { name, call, checkers: self.checkers.clone(), trace: self.traces[first_failure].clone() }
+    }
 }
 
 /// Full checks of kinds 1 and 6 on buses of either direction. A bus of one wire has no direction, and kind 1 has at least
@@ -136,20 +216,20 @@ fn mixed() -> Vec<Config> {
 const UNUSED: Range = Range { left: 0, right: 0 };
 
 fn sequence(kind: u8, events: Range) -> Config {
-    Config { kind, n: events.width(), p: events, q: UNUSED, r: UNUSED, min: 0, value: 0 }
+    Config { kind, n: events.width(), p: events, q: UNUSED, r: UNUSED, min: 0, value: 0, severity: GOES_ON }
 }
 
 fn time(kind: u8, n: u32) -> Config {
-    Config { kind, n, p: bus(START, 1, false), q: bus(TEST, 1, false), r: UNUSED, min: 0, value: 0 }
+    Config { kind, n, p: bus(START, 1, false), q: bus(TEST, 1, false), r: UNUSED, min: 0, value: 0, severity: GOES_ON }
 }
 
 fn transition(states: Range) -> Config {
-    Config { kind: 6, n: 0, p: states, q: states, r: states, min: 0, value: 0 }
+    Config { kind: 6, n: 0, p: states, q: states, r: states, min: 0, value: 0, severity: GOES_ON }
 }
 
 fn window(kind: u8, min: u32, max: u32, tracked: Range) -> Config {
     let value = if kind == 7 { Port::new(tracked).value(TRACKED_VALUES[0] << TRACKED) } else { 0 };
-    Config { kind, n: max, p: tracked, q: bus(TRIGGER, 1, false), r: UNUSED, min, value }
+    Config { kind, n: max, p: tracked, q: bus(TRIGGER, 1, false), r: UNUSED, min, value, severity: GOES_ON }
 }
 
 /// `width` wires from `lowest` up, declared [high:low] or, ascending, [low:high].
@@ -203,35 +283,59 @@ pub fn cut(trace: &[u32], from: usize, length: usize) -> &[u32] {
 }
 
 /// The rows of the false record that checker k's recheck starts from: those of the trace one cycle later. They are like its
-/// own and differ in many cycles.
+/// own and differ in many cycles; for a fatal checker they are those of one that goes on, which are not 0 to the end.
 pub fn kept_rows(config: &Config, trace: &[u32], k: usize) -> Vec<u32> {
+    let config = Config { severity: GOES_ON, ..*config };
     let mut record = Record::new(CYCLES);
-    Plain.full_check(config, cut(trace, k + 1, CYCLES), &mut record).expect("every input's configuration is good");
+    Plain.full_check(&config, cut(trace, k + 1, CYCLES), &mut record).expect("every input's configuration is good");
     record.rows
 }
 
 /// A trace of 65,536 cycles for the checker's failure list, of which about one in so many fails, or none.
 ///
 /// A failure that has come due in a cycle where nothing can fail waits for the next one where something can.
-pub fn list_trace(config: &Config, one_in: Option<u32>) -> Vec<u32> {
+fn list_trace(config: &Config, one_in: Option<u32>) -> Vec<u32> {
     let mut streams = Streams::new();
-    let mut cycle = Cycle { frame: [0; 4], word: 0, fails: false };
+    let mut cycle = Cycle::START;
     let mut due = 0;
     let mut frames = Vec::with_capacity(4 * CYCLES);
     for _ in 0..CYCLES {
         due += u32::from(one_in.is_some_and(|cycles| streams.base.word().is_multiple_of(cycles)));
-        cycle = streams.cycle(config, &cycle, due > 0);
+        cycle = streams.cycle(slice::from_ref(config), &cycle, due > 0);
         due -= u32::from(cycle.fails);
         frames.extend(cycle.frame);
     }
     frames
 }
 
-/// A cycle of one checker: its frame, the open word after it, and whether its row has a failure or an illegal start.
+/// A trace as long as the usual one, on which none of the checkers fails, checker k from cycle k on (see `Call`). For one
+/// checker it begins with the trace of its list without failures.
+///
+/// For the 64 mixed, the start comes about once in 550 cycles, since kind 5 bears no other in its windows of 1,024; and all
+/// 16 events are there in nearly every cycle.
+fn quiet_trace(checkers: &[Config]) -> Vec<u32> {
+    let mut streams = Streams::new();
+    let mut cycle = Cycle::START;
+    let mut frames = Vec::with_capacity(4 * (CYCLES + BENCH));
+    for t in 0..CYCLES + BENCH {
+        let begun = &checkers[..checkers.len().min(t + 1)];
+        cycle = streams.cycle(begun, &cycle, false);
+        frames.extend(cycle.frame);
+    }
+    frames
+}
+
+/// A cycle of one or more checkers: its frame, each one's open word after it, and whether a row has a failure or an illegal
+/// start.
 struct Cycle {
     frame: [u32; 4],
-    word: u64,
+    words: [u64; BENCH],
     fails: bool,
+}
+
+impl Cycle {
+    /// What the first cycle comes after.
+    const START: Cycle = Cycle { frame: [0; 4], words: [0; BENCH], fails: false };
 }
 
 /// SplitMix64: the same words from the same seed on every machine.
@@ -314,32 +418,37 @@ impl Streams {
     }
 
     /// A cycle after `before` that fails or does not, as asked; where none of many draws fails, one that does not.
-    fn cycle(&mut self, config: &Config, before: &Cycle, fails: bool) -> Cycle {
+    fn cycle(&mut self, checkers: &[Config], before: &Cycle, fails: bool) -> Cycle {
         // Out of the draws that are thrown away: a cycle in reset or not enabled never fails, so it would come too often.
-        let reset = self.frame(0)[0];
+        let mut reset = self.frame(0)[0];
         let mut draws = 0;
         loop {
-            let cycle = self.draw(config, before, reset);
+            let cycle = self.draw(checkers, before, reset);
             if cycle.fails == (fails && draws < MOST_DRAWS) {
                 return cycle;
             }
             draws += 1;
+            // One checker does not fail on every frame, but several can ask for different values of the same wires.
+            if draws == DRAWS_TO_RESET {
+                reset &= !1;
+            }
         }
     }
 
-    fn draw(&mut self, config: &Config, before: &Cycle, reset: u32) -> Cycle {
+    /// A cycle after `before`. Where a checker fails, the words of those behind it are not those after the cycle.
+    fn draw(&mut self, checkers: &[Config], before: &Cycle, reset: u32) -> Cycle {
         let state = self.base.state_after(&before.frame);
         let mut frame = self.frame(state);
         frame[0] = reset;
         // An event is there in 7 cycles of 8: else too few attempts at 16 events come to the last one, where kind 0 fails.
         frame[1] |= self.base.word() & EVENT_WIRES;
-        let (mut word, mut row) = ([before.word], [0]);
-        plain::bench_step(&[*config], &frame, &mut word, &mut row).expect("every input's configuration is good");
-        Cycle { frame, word: word[0], fails: fails(row[0]) }
+        let mut words = before.words;
+        let fails = checkers.iter().zip(&mut words).any(|(config, word)| {
+            let mut row = [0];
+            plain::bench_step(slice::from_ref(config), &frame, slice::from_mut(word), &mut row)
+                .expect("every input's configuration is good");
+            fails(row[0])
+        });
+        Cycle { frame, words, fails }
     }
-}
-
-/// Whether a row has the mark of a failure or of an illegal start.
-pub fn fails(row: u32) -> bool {
-    row & (FAILURE | ILLEGAL) != 0
 }

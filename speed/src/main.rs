@@ -9,12 +9,12 @@ mod plain;
 mod proved;
 mod timing;
 
-use inputs::{Table, CYCLES};
+use inputs::{Input, Table, CYCLES};
 use proved::Library;
 use std::env;
 use std::process::ExitCode;
 use std::time::Duration;
-use timing::Plan;
+use timing::{Plan, Times};
 
 const LEAST_ROUNDS: usize = 31;
 const LEAST_TIME: Duration = Duration::from_millis(500);
@@ -29,7 +29,7 @@ fn main() -> ExitCode {
     }
 }
 
-/// The arguments are one or two libraries; ONLY and ROUNDS are those of `speed/run`.
+/// The arguments are one or two libraries; ONLY, SKIP and ROUNDS are those of `speed/run`.
 fn run() -> Result<(), String> {
     let libraries: Vec<Library> = env::args().skip(1).map(|path| Library::open(&path)).collect::<Result<_, _>>()?;
     if libraries.is_empty() {
@@ -52,16 +52,19 @@ fn run() -> Result<(), String> {
     Ok(())
 }
 
-/// All inputs; with ONLY, those that have its text in their names, and the tables that have any.
+/// All inputs; with ONLY, those that have its text in their names, and with SKIP those that do not; and the tables that have
+/// any.
 fn chosen_tables() -> Result<Vec<Table>, String> {
     let only = env::var("ONLY").unwrap_or_default();
+    let skip = env::var("SKIP").ok().filter(|text| !text.is_empty());
+    let skipped = |name: &str| skip.as_ref().is_some_and(|text| name.contains(text));
     let mut tables = inputs::tables();
     for table in &mut tables {
-        table.inputs.retain(|input| input.name.contains(&only));
+        table.inputs.retain(|input| input.name.contains(&only) && !skipped(&input.name));
     }
     tables.retain(|table| !table.inputs.is_empty());
     if tables.is_empty() {
-        return Err(format!("no input has {only:?} in its name"));
+        return Err(format!("no input has {only:?} in its name and is not skipped"));
     }
     Ok(tables)
 }
@@ -80,7 +83,7 @@ fn plan() -> Result<Plan, String> {
 /// Time, yardstick and their ratio for each input; then the time of the other library, and the first one's divided by it.
 fn print_table(table: &Table, libraries: &[Library], plan: Plan) {
     let [time, yardstick] = table.columns;
-    print!("\n{:45} {time:>14} {yardstick:>14} {:>7}", "input", "ratio");
+    print!("\n{:53} {time:>14} {yardstick:>14} {:>7}", "input", "ratio");
     println!("{}", if libraries.len() > 1 { format!(" {:>14} {:>11}", "other", "first/other") } else { String::new() });
     let mut worst: f64 = 0.0;
     for input in &table.inputs {
@@ -88,13 +91,22 @@ fn print_table(table: &Table, libraries: &[Library], plan: Plan) {
         let (first, yardstick) = (times.libraries[0], times.yardstick);
         let ratio = first / yardstick;
         worst = worst.max(ratio);
-        print!("{:45} {first:14.2} {yardstick:14.2} {ratio:7.2}", input.name);
+        print!("{:53} {first:14.2} {yardstick:14.2} {ratio:7.2}", input.name);
         for other in &times.libraries[1..] {
             print!(" {other:14.2} {:11.2}", first / other);
         }
-        println!("{}", times.failing.map_or(String::new(), |share| format!("  {:.2}% fail", 100.0 * share)));
+        println!("{}", share_text(input, &times));
     }
     println!("speed: worst ratio {worst:.2}");
+}
+
+/// How many of the cycles fail or, of a fatal checker, find it stopped.
+fn share_text(input: &Input, times: &Times) -> String {
+    match (input.stopped(), times.failing) {
+        (Some(share), _) => format!("  {:.2}% stopped", 100.0 * share),
+        (None, Some(share)) => format!("  {:.2}% fail", 100.0 * share),
+        (None, None) => String::new(),
+    }
 }
 
 fn cpu_name() -> String {

@@ -10,6 +10,8 @@
 //! bus that is read against the order of its wires is turned round by `u32::reverse_bits`, and for kind 7 it is the
 //! expected value that is, once before the loop; the slices are walked by iterators. There is no proof, and no `unsafe`:
 //! the compiler's tests of indices stay where it cannot see that they are not needed.
+//!
+//! A fatal checker has loops of its own, so that those of one that goes on look at no severity.
 #![forbid(unsafe_code)]
 
 use std::hint::select_unpredictable;
@@ -41,6 +43,12 @@ const STORED: u64 = 1 << 32;
 const HELD: u64 = 1 << 48;
 const REFERENCE: u32 = 16;
 
+pub const GOES_ON: u8 = 0;
+pub const FATAL: u8 = 1;
+
+/// The open word of a fatal checker from its first failure on.
+pub const STOPPED: u64 = 1 << 63;
+
 /// The wire of enable in the reset word; wire 0 is reset_n.
 pub const ENABLE: u32 = 1;
 
@@ -67,6 +75,7 @@ pub struct Config {
     pub min: u32,
     /// Kind 7: the value that is expected.
     pub value: u32,
+    pub severity: u8,
 }
 
 /// Fills the row and the open word of every cycle. An error is the refusal number, 1 to 5.
@@ -80,6 +89,10 @@ pub fn full_check(config: &Config, trace: &[u32], rows: &mut [u32], words: &mut 
     }
     if rows.len() != frames.len() || words.len() != frames.len() {
         return Err(5);
+    }
+    if config.severity == FATAL {
+        fill_fatal(config, frames, rows, words);
+        return Ok(());
     }
     match config.kind {
         MOST_PIPE => fill(&Sequence::<MOST_PIPE>::new(config), frames, rows, words),
@@ -105,6 +118,43 @@ fn fill(checker: &impl Checker, frames: &[Frame], rows: &mut [u32], words: &mut 
     }
 }
 
+/// A fatal checker is stepped through its first failure; what comes after it depends on no frame.
+fn fill_fatal(config: &Config, frames: &[Frame], rows: &mut [u32], words: &mut [u64]) {
+    let ascends = config.p.ascends();
+    let failed = match config.kind {
+        MOST_PIPE if ascends => fill_to_failure(&Directed::<MOST_PIPE, true>::new(config), frames, rows, words),
+        MOST_PIPE => fill_to_failure(&Directed::<MOST_PIPE, false>::new(config), frames, rows, words),
+        FIRST_PIPE if ascends => fill_to_failure(&Directed::<FIRST_PIPE, true>::new(config), frames, rows, words),
+        FIRST_PIPE => fill_to_failure(&Directed::<FIRST_PIPE, false>::new(config), frames, rows, words),
+        FIRST_NO_PIPE if ascends => fill_to_failure(&Directed::<FIRST_NO_PIPE, true>::new(config), frames, rows, words),
+        FIRST_NO_PIPE => fill_to_failure(&Directed::<FIRST_NO_PIPE, false>::new(config), frames, rows, words),
+        IGNORE_NEW_START => fill_to_failure(&Time::<IGNORE_NEW_START>::new(config), frames, rows, words),
+        RESET_ON_NEW_START => fill_to_failure(&Time::<RESET_ON_NEW_START>::new(config), frames, rows, words),
+        ERROR_ON_NEW_START => fill_to_failure(&Time::<ERROR_ON_NEW_START>::new(config), frames, rows, words),
+        TRANSITION if config.all_descend() => fill_to_failure(&Transition::<false>::new(config), frames, rows, words),
+        TRANSITION => fill_to_failure(&Transition::<true>::new(config), frames, rows, words),
+        VALUE => fill_to_failure(&Value::new(config), frames, rows, words),
+        _ if ascends => fill_to_failure(&Stability::<true>::new(config), frames, rows, words),
+        _ => fill_to_failure(&Stability::<false>::new(config), frames, rows, words),
+    };
+    if let Some(t) = failed {
+        rows[t + 1..].fill(0);
+        words[t..].fill(STOPPED);
+    }
+}
+
+/// Fills through the first failure, and answers its cycle.
+// Never inlined, as the compiler by itself does not inline `fill`: 14 loops in one function have worse registers.
+#[inline(never)]
+fn fill_to_failure(checker: &impl Checker, frames: &[Frame], rows: &mut [u32], words: &mut [u64]) -> Option<usize> {
+    let mut word = 0;
+    frames.iter().zip(rows).zip(words).position(|((frame, row), kept)| {
+        (*row, word) = step(checker, word, frame);
+        *kept = word;
+        fails(*row)
+    })
+}
+
 /// Steps every checker of the table on its own frame, word and row. An error is 256 times the refusal plus the bad checker.
 #[inline(never)]
 pub fn bench_step(table: &[Config], frames: &[u32], words: &mut [u64], rows: &mut [u32]) -> Result<(), u32> {
@@ -121,12 +171,24 @@ pub fn bench_step(table: &[Config], frames: &[u32], words: &mut [u64], rows: &mu
     }
     let (frames, _) = frames.as_chunks::<4>();
     for (((config, frame), word), row) in table.iter().zip(frames).zip(words).zip(rows) {
-        (*row, *word) = step_of_kind(config, *word, frame);
+        (*row, *word) =
+            if config.severity == FATAL { fatal_step(config, *word, frame) } else { step_of_kind(config, *word, frame) };
     }
     Ok(())
 }
 
+/// One step of a fatal checker that was tested. Once stopped it looks at no frame.
+fn fatal_step(config: &Config, word: u64, frame: &Frame) -> (u32, u64) {
+    if word == STOPPED {
+        return (0, STOPPED);
+    }
+    let (row, next) = step_of_kind(config, word, frame);
+    (row, if fails(row) { STOPPED } else { next })
+}
+
 /// One step of a checker that was tested. A table's kinds are mixed, so here the kind is looked at in each step.
+// It has two callers, and is too large to be inlined in both unasked: each step would pay a call.
+#[inline(always)]
 fn step_of_kind(config: &Config, word: u64, frame: &Frame) -> (u32, u64) {
     match config.kind {
         MOST_PIPE => step(&Sequence::<MOST_PIPE>::new(config), word, frame),
@@ -167,11 +229,9 @@ impl<const KIND: u8> Sequence<KIND> {
         let turned = Range { left: config.p.right, right: config.p.left };
         Self { events: Port::new(turned), last: config.n - 1 }
     }
-}
 
-impl<const KIND: u8> Checker for Sequence<KIND> {
-    fn step(&self, word: u64, frame: &Frame) -> (u32, u64) {
-        let events = u64::from(self.events.value(frame[1]));
+    fn step_on(&self, word: u64, events: u32) -> (u32, u64) {
+        let events = u64::from(events);
         let accepts = KIND != FIRST_NO_PIPE || word == 0;
         let start = events & u64::from(accepts);
         let older = word << 1;
@@ -182,6 +242,29 @@ impl<const KIND: u8> Checker for Sequence<KIND> {
             _ => (missed != 0, start != 0),
         };
         (mark(failure, FAILURE) | mark(opened, OPENED), next)
+    }
+}
+
+impl<const KIND: u8> Checker for Sequence<KIND> {
+    fn step(&self, word: u64, frame: &Frame) -> (u32, u64) {
+        self.step_on(word, self.events.value(frame[1]))
+    }
+}
+
+/// Kinds 0 to 2, fatal. Of the loop that goes on the compiler makes one for each direction, but not of one that can stop.
+struct Directed<const KIND: u8, const ASCENDING: bool>(Sequence<KIND>);
+
+impl<const KIND: u8, const ASCENDING: bool> Directed<KIND, ASCENDING> {
+    fn new(config: &Config) -> Self {
+        Self(Sequence::new(config))
+    }
+}
+
+impl<const KIND: u8, const ASCENDING: bool> Checker for Directed<KIND, ASCENDING> {
+    fn step(&self, word: u64, frame: &Frame) -> (u32, u64) {
+        // An attempt meets its events from the left on, so it is the descending port that is turned round.
+        let wires = if ASCENDING { frame[1] } else { frame[1].reverse_bits() };
+        self.0.step_on(word, self.0.events.descending(wires))
     }
 }
 
@@ -361,6 +444,11 @@ fn mark(set: bool, mark: u32) -> u32 {
     u32::from(set) * mark
 }
 
+/// Whether a row has the mark of a failure or of an illegal start.
+pub fn fails(row: u32) -> bool {
+    row & (FAILURE | ILLEGAL) != 0
+}
+
 /// How a port is read from its word of wires.
 pub struct Port {
     ascending: bool,
@@ -403,6 +491,11 @@ impl Config {
     fn all_descend(&self) -> bool {
         [self.p, self.q, self.r].iter().all(|range| !range.ascends())
     }
+
+    /// Whether some trace stops the checker. Kind 8 with one tested cycle has nothing to compare its reference with.
+    fn can_stop(&self) -> bool {
+        self.severity == FATAL && (self.kind != STABILITY || self.min < self.n)
+    }
 }
 
 impl Range {
@@ -425,7 +518,7 @@ impl Range {
 
 /// Refusals 1 to 3.
 fn test_config(config: &Config) -> Result<(), u32> {
-    let &Config { kind, n, p, q, r, min, value } = config;
+    let &Config { kind, n, p, q, r, min, value, severity } = config;
     let n_fits = match kind {
         MOST_PIPE..=FIRST_NO_PIPE => (2..=32).contains(&n) && min == 0,
         IGNORE_NEW_START..=ERROR_ON_NEW_START => (1..=LONGEST_WINDOW).contains(&n) && min == 0,
@@ -433,7 +526,7 @@ fn test_config(config: &Config) -> Result<(), u32> {
         VALUE | STABILITY => n <= LONGEST_WINDOW && min <= n,
         _ => return Err(1),
     };
-    if !n_fits {
+    if !n_fits || severity > FATAL {
         return Err(2);
     }
     if !(p.is_within() && q.is_within() && r.is_within()) {
@@ -462,7 +555,8 @@ fn test_step(config: &Config, word: u64) -> Result<(), u32> {
         TRANSITION => word == 0 || word.checked_sub(STORED).is_some_and(|value| value >> config.p.width() == 0),
         _ => is_stability_word(config, word),
     };
-    if possible {
+    // No kind takes the word of a stopped checker for one of its own.
+    if possible || word == STOPPED && config.can_stop() {
         Ok(())
     } else {
         Err(7)

@@ -8,18 +8,22 @@ use std::ffi::{c_char, c_int, c_void, CStr, CString};
 use std::mem::transmute_copy;
 use std::ops::Range;
 
-// Each pointer is followed by its length. The first ten numbers of three of the calls are the configuration.
+// Each pointer is followed by its length. The first eleven numbers of three of the calls are the configuration.
 #[rustfmt::skip]
 type Check = unsafe extern "C" fn(
-    u8, u32, u8, u8, u8, u8, u8, u8, u32, u32, *const u32, usize, *mut u32, usize, *mut u64, usize,
+    u8, u32, u8, u8, u8, u8, u8, u8, u32, u32, u8, *const u32, usize, *mut u32, usize, *mut u64, usize,
 ) -> u32;
 #[rustfmt::skip]
 type Recheck = unsafe extern "C" fn(
-    u8, u32, u8, u8, u8, u8, u8, u8, u32, u32, *const u32, usize, *mut u32, usize, *mut u64, usize,
+    u8, u32, u8, u8, u8, u8, u8, u8, u32, u32, u8, *const u32, usize, *mut u32, usize, *mut u64, usize,
     u64, u64, *mut i32, usize,
 ) -> u32;
-type Failures = unsafe extern "C" fn(u8, u32, u8, u8, u8, u8, u8, u8, u32, u32, *const u32, usize, *mut u32, usize) -> u64;
+type Failures =
+    unsafe extern "C" fn(u8, u32, u8, u8, u8, u8, u8, u8, u32, u32, u8, *const u32, usize, *mut u32, usize) -> u64;
 type Bench = unsafe extern "C" fn(*const Config, usize, *const u32, usize, *mut u64, usize, *mut u32, usize) -> u32;
+
+/// `Config` goes to the bench as it is, so it has to have the size of the header's `struct selvedgeon_config`.
+const _: () = assert!(size_of::<Config>() == 28);
 
 // The system's loader, in the C library that std links.
 extern "C" {
@@ -59,13 +63,13 @@ impl Library {
 
     /// The recheck of an edit of those cycles: the cycle where it stopped, then the five changes.
     pub fn recheck(&self, config: &Config, trace: &[u32], record: &mut Record, edit: Range<usize>) -> Result<[i32; 6], u32> {
-        let &Config { kind, n, p, q, r, min, value } = config;
+        let &Config { kind, n, p, q, r, min, value, severity } = config;
         let Record { rows, words } = record;
         let mut answer = [0; 6];
         #[rustfmt::skip]
         let refusal = unsafe {
             (self.recheck)(
-                kind, n, p.left, p.right, q.left, q.right, r.left, r.right, min, value,
+                kind, n, p.left, p.right, q.left, q.right, r.left, r.right, min, value, severity,
                 trace.as_ptr(), trace.len(), rows.as_mut_ptr(), rows.len(), words.as_mut_ptr(), words.len(),
                 edit.start as u64, edit.end as u64, answer.as_mut_ptr(), answer.len(),
             )
@@ -75,11 +79,11 @@ impl Library {
 
     /// The failure list: the number of its entries, of three words each.
     pub fn failures(&self, config: &Config, trace: &[u32], list: &mut [u32]) -> Result<usize, u32> {
-        let &Config { kind, n, p, q, r, min, value } = config;
+        let &Config { kind, n, p, q, r, min, value, severity } = config;
         #[rustfmt::skip]
         let answer = unsafe {
             (self.failures)(
-                kind, n, p.left, p.right, q.left, q.right, r.left, r.right, min, value,
+                kind, n, p.left, p.right, q.left, q.right, r.left, r.right, min, value, severity,
                 trace.as_ptr(), trace.len(), list.as_mut_ptr(), list.len(),
             )
         };
@@ -89,12 +93,12 @@ impl Library {
 
 impl Engine for Library {
     fn full_check(&self, config: &Config, trace: &[u32], record: &mut Record) -> Answer {
-        let &Config { kind, n, p, q, r, min, value } = config;
+        let &Config { kind, n, p, q, r, min, value, severity } = config;
         let Record { rows, words } = record;
         #[rustfmt::skip]
         let refusal = unsafe {
             (self.check)(
-                kind, n, p.left, p.right, q.left, q.right, r.left, r.right, min, value,
+                kind, n, p.left, p.right, q.left, q.right, r.left, r.right, min, value, severity,
                 trace.as_ptr(), trace.len(), rows.as_mut_ptr(), rows.len(), words.as_mut_ptr(), words.len(),
             )
         };

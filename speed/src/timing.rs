@@ -1,7 +1,7 @@
 //! How long the calls take: the best of many rounds, in which the calls that are held against each other take turns.
 use crate::engine::{Engine, Plain, Record};
-use crate::inputs::{cut, fails, kept_rows, list_trace, Call, Input, BENCH, CYCLES, LIST};
-use crate::plain::Config;
+use crate::inputs::{cut, kept_rows, Call, Input, BENCH, CYCLES, LIST};
+use crate::plain::{fails, Config};
 use crate::proved::Library;
 use std::hint::black_box;
 use std::time::{Duration, Instant};
@@ -39,7 +39,7 @@ type Timed<'a> = Box<dyn Fn(&mut Memory) + 'a>;
 pub fn times(input: &Input, libraries: &[Library], plan: Plan) -> Times {
     match input.call {
         Call::FullCheck | Call::Bench => all_at_once(input, libraries, plan),
-        Call::Recheck | Call::List { .. } => one_by_one(input, libraries, plan),
+        Call::Recheck | Call::List | Call::OwnList { .. } => one_by_one(input, libraries, plan),
     }
 }
 
@@ -67,14 +67,14 @@ fn one_by_one(input: &Input, libraries: &[Library], plan: Plan) -> Times {
     let mut failing = 0;
     for (k, config) in input.checkers.iter().enumerate() {
         let best = match input.call {
-            Call::List { one_in } => list_times(config, &list_trace(config, one_in), libraries, &mut memory, plan),
-            _ => recheck_times(config, &input.trace, k, libraries, &mut memory, plan),
+            Call::Recheck => recheck_times(config, &input.trace, k, libraries, &mut memory, plan),
+            _ => list_times(config, &input.frames(k), libraries, &mut memory, plan),
         };
         sums.iter_mut().zip(best).for_each(|(sum, best)| *sum += best);
         failing += memory.record.rows.iter().filter(|row| fails(**row)).count();
     }
     let mut times = per_step(&sums, CYCLES * checkers);
-    if let Call::List { .. } = input.call {
+    if !matches!(input.call, Call::Recheck) {
         // A list goes over the trace twice, once to count and once to write.
         times.libraries.iter_mut().for_each(|time| *time /= 2.0);
         times.failing = Some(failing as f64 / (CYCLES * checkers) as f64);

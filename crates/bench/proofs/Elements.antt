@@ -84,7 +84,7 @@ made = LL.makes C.the-type C′.the-plain
 
 -- the bytes of a checker
 abbrev pub checkerBytes : ℕ
-checkerBytes = 24
+checkerBytes = 28
 
 pub place-fits : {n k : ℕ} → Room C.the-row n → k < n → k * checkerBytes < 2 ^ 64
 place-fits {n} {k} room l = let bytes : n * checkerBytes < 2 ^ 63 = room .1 in omega (arith, bytes, l)

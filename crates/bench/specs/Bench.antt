@@ -12,7 +12,7 @@ use Rattle.bench_lengths.specs.Lengths.{lengthsRefusal}
 
 -- what stands for a checker that the table has not: nothing is said of it
 abbrev pub blank : Config
-blank = record { kind = 0; n = 0; p = record { left = 0; right = 0 }; q = record { left = 0; right = 0 }; r = record { left = 0; right = 0 }; min = 0; value = 0 }
+blank = record { kind = 0; n = 0; p = record { left = 0; right = 0 }; q = record { left = 0; right = 0 }; r = record { left = 0; right = 0 }; min = 0; value = 0; severity = 0 }
 
 -- checker k of a table
 abbrev pub checkerAt : List Config → ℕ → Config

@@ -3,8 +3,9 @@
 -- counted and stored row by row (`Counting`, `stored-next`). Assumes nothing.
 use Prim.Native.Nat.{ℕ, zero, suc, _+_, _-_, _*_, _%_, _≤_, _<_}
 use mathlib.Core.Path.{_≡_, refl, sym, ap, ap₂, _∙_}
-use mathlib.Core.Bool.{Bool, true, false, cond}
+use mathlib.Core.Bool.{Bool, true, false, not, _&&_, cond}
 use mathlib.Core.List.{List, [], _∷_, _++_, map, append-nil, append-assoc}
+use mathlib.Core.Logic.{⊎-elim}
 use native.Mathlib.Nat.{add-zero, le-refl}
 use native.Mathlib.Numerals.{add-one}
 use native.Mathlib.Omega.{arith}
@@ -12,18 +13,18 @@ use borrow.Author.Tests.{eqb-true, eqb-false, not-true, not-false}
 use lib.Dec.{T}
 use lib.ListN.{length, getD, take, drop, length-append, take-append-drop}
 use lib.Seq.{take-suc, take-take, getD-take, length-take-le}
-use Rattle.bits.proofs.Tests.{is-true}
+use Rattle.bits.proofs.Tests.{is-true, either}
 use Rattle.rules.specs.declared.config.Config.{Config}
 use Rattle.rules.specs.Config.{Good}
 use Rattle.rules.specs.Frame.{Trace}
-use Rattle.rules.specs.Rules.{wordBefore}
-use Rattle.rules.proofs.Claims.{step-is-rules}
-use Rattle.rules.proofs.Reached.{before-possible}
+use Rattle.rules.specs.Rules.{goingBefore, stoppedBefore, row, wordBefore}
+use Rattle.rules.proofs.Going.{going-row, going-before}
+use Rattle.rules.proofs.Claims.{before-going}
 use Rattle.trace.specs.Traces.{frames, frameAt}
-use Rattle.listed.specs.Lists.{Entry, entry, chosen, failed, illegal, failuresAt}
+use Rattle.listed.specs.Lists.{Entry, entry, chosen, goingFailed, goingIllegal, failed, illegal, failuresAt}
 use Rattle.listed.specs.Starts.{fails, startsIllegally}
 use Rattle.listed.proofs.Ascending.{member-at, chosen-holds}
-use Rattle.listed.proofs.Chosen.{chosen-ext}
+use Rattle.listed.proofs.Chosen.{chosen-ext, chosen-none}
 use Rattle.listed.proofs.Found.{failed-starts, illegal-starts, before-placed}
 use Rattle.entries.specs.Entries.{Stored}
 use Rattle.cycle_entries.specs.Steps.{stepEntries, Ready}
@@ -33,14 +34,31 @@ use Rattle.marked.specs.Picks.{blockCycles, marked}
 use Rattle.blocks.specs.Blocks.{entriesFrom, Passing, Block, wordIn, CycleIn}
 use Rattle.blocks.specs.declared.block.Cycle.{Cycle}
 
-step-entries : (c : Config) → Good c → (tr : Trace) (t : ℕ) → stepEntries c (wordBefore c tr t) (tr t) t ≡ failuresAt c tr t
-unfolding failuresAt stepEntries
-step-entries c good tr t =
-    let w = wordBefore c tr t in
-    sym
-    (ap₂ (λ (ss us : List ℕ). map (entry t 1) ss ++ map (entry t 2) us)
-    (chosen-ext (suc t) (failed c tr t) (fails c w (tr t) t) (failed-starts c good tr t))
-    (chosen-ext (suc t) (illegal c tr t) (startsIllegally c w (tr t) t) (illegal-starts c good tr t)))
+-- a check of a fatal checker fails as that of one that goes on, up to its first failure, and no more behind it
+module _ (c : Config) (tr : Trace) (t : ℕ) (b : Bool) (e : stoppedBefore c tr t ≡ b) (s : ℕ) where
+  failed-is : failed c tr t s ≡ (not b && goingFailed c tr t s)
+  unfolding failed
+  failed-is = ap (λ (x : Bool). not x && goingFailed c tr t s) e
+
+  illegal-is : illegal c tr t s ≡ (not b && goingIllegal c tr t s)
+  unfolding illegal
+  illegal-is = ap (λ (x : Bool). not x && goingIllegal c tr t s) e
+
+module _ (c : Config) (tr : Trace) (t : ℕ) where
+  step-entries : Good c → stoppedBefore c tr t ≡ false → stepEntries c (goingBefore c tr t) (tr t) t ≡ failuresAt c tr t
+  unfolding failuresAt stepEntries
+  step-entries good e =
+      let w = goingBefore c tr t in
+      sym
+      (ap₂ (λ (ss us : List ℕ). map (entry t 1) ss ++ map (entry t 2) us)
+      (chosen-ext (suc t) (failed c tr t) (fails c w (tr t) t) (λ s l. failed-is c tr t false e s ∙ failed-starts c good tr t s l))
+      (chosen-ext (suc t) (illegal c tr t) (startsIllegally c w (tr t) t) (λ s l. illegal-is c tr t false e s ∙ illegal-starts c good tr t s l)))
+
+  no-failures : stoppedBefore c tr t ≡ true → failuresAt c tr t ≡ []
+  unfolding failuresAt
+  no-failures e =
+      ap₂ (λ (ss us : List ℕ). map (entry t 1) ss ++ map (entry t 2) us) (chosen-none (suc t) (failed c tr t) (λ s l. failed-is c tr t true e s))
+      (chosen-none (suc t) (illegal c tr t) (λ s l. illegal-is c tr t true e s))
 
 -- the word before the first cycle of a block, and before any other
 pub word-first : (word : ℕ) (words : List ℕ) (k : ℕ) → k ≡ 0 → word ≡ wordIn word words k
@@ -96,20 +114,30 @@ module _ {c : Config} {trace : List ℕ} {t m : ℕ} {rows words picked : List �
     word-here zero l = p .word-is ∙ ap (wordBefore c (frameAt trace)) (sym (add-zero t))
     word-here (suc k) l = b .words-are k l
 
-    pub here : (k : ℕ) (r : Cycle) → k < m → CycleIn trace t word rows words k r → Here c trace (t + k) r
-    here k r l f =
-        let is = f .word-is ∙ word-here k (omega arith) in
+    -- whether it has failed before cycle k
+    abbrev failedBy : ℕ → Bool
+    failedBy k = stoppedBefore c (frameAt trace) (t + k)
+
+    here : (k : ℕ) (r : Cycle) → k < m → CycleIn trace t word rows words k r → failedBy k ≡ false → Here c trace (t + k) r
+    unfolding row
+    here k r l f on =
+        let is = f .word-is ∙ word-here k (omega arith) ∙ before-going c (frameAt trace) (t + k) on in
         rw (f .t-is, is, f .frame-is, f .row-is)
         (record {
           ready = record {
             good = p .good;
-            possible-word = before-possible c (p .good) (frameAt trace) (t + k);
+            possible-word = going-before c (p .good) (frameAt trace) (t + k);
             placed = before-placed c (p .good) (frameAt trace) (t + k);
-            row-is = b .rows-are k l ∙ step-is-rules c (p .good) (frameAt trace) (t + k) .row-is;
+            row-is = b .rows-are k l ∙ rw on (going-row c (p .good) (frameAt trace) (t + k));
             low = omega (arith, b .in-trace, p .short);
           };
-          entries = step-entries c (p .good) (frameAt trace) (t + k);
+          entries = step-entries c (frameAt trace) (t + k) (p .good) on;
         })
+
+    -- behind a failure the row is 0
+    row-none : (k : ℕ) → k < m → failedBy k ≡ true → getD rows k 0 ≡ 0
+    unfolding row
+    row-none k l e = b .rows-are k l ∙ rw e refl
 
     abbrev cycleAt : ℕ → Cycle
     cycleAt k = record { t = t + k; word = wordIn word words k; frame = frameAt trace (t + k); row = getD rows k 0 }
@@ -118,9 +146,12 @@ module _ {c : Config} {trace : List ℕ} {t m : ℕ} {rows words picked : List �
     unmarked : (k : ℕ) → k < m → marked rows k ≡ false → failuresAt c (frameAt trace) (t + k) ≡ []
     unfolding marked
     unmarked k l z =
-        let h = here k (cycleAt k) l (record { t-is = refl; word-is = refl; frame-is = refl; row-is = refl }) in
+        ⊎-elim (no-failures c (frameAt trace) (t + k))
+        (λ (on : failedBy k ≡ false).
+        let h = here k (cycleAt k) l (record { t-is = refl; word-is = refl; frame-is = refl; row-is = refl }) on in
         sym (h .entries)
-        ∙ no-entries c (wordIn word words k) (frameAt trace (t + k)) (getD rows k 0) (t + k) (h .ready) (eqb-true (getD rows k 0 % 4) 0 (not-false _ z))
+        ∙ no-entries c (wordIn word words k) (frameAt trace (t + k)) (getD rows k 0) (t + k) (h .ready) (eqb-true (getD rows k 0 % 4) 0 (not-false _ z)))
+        (either (failedBy k))
 
     rows-entries : (k : ℕ) → k ≤ m → entriesFrom c (frameAt trace) t k ≡ entriesOf c (frameAt trace) t (chosen k (marked rows))
     unfolding entriesFrom chosen entriesOf
@@ -157,7 +188,11 @@ module _ {c : Config} {trace : List ℕ} {t m : ℕ} {rows words picked : List �
 
       -- it is a cycle that has entries
       pub picked-here : (r : Cycle) → CycleIn trace t word rows words (getD picked i 0) r → Here c trace (t + getD picked i 0) r × (0 < r .row % 4)
-      picked-here r f = (here (getD picked i 0) r (held .0) f, rw (f .row-is) picked-marked)
+      picked-here r f =
+          let k = getD picked i 0 in
+          let on : failedBy k ≡ false =
+          ⊎-elim (λ (e : failedBy k ≡ true). absurd (omega (arith, picked-marked, row-none k (held .0) e))) (λ (e : failedBy k ≡ false). e) (either (failedBy k)) in
+          (here k r (held .0) f on, rw (f .row-is) picked-marked)
 
       -- the entries of one more marked row
       next-entries : entriesOf c (frameAt trace) t (take (i + 1) picked)

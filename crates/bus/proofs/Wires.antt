@@ -5,7 +5,7 @@ use mathlib.Core.Path.{_≡_, refl, sym, ap, _∙_}
 use mathlib.Core.Bool.{Bool, true, false, cond}
 use native.Mathlib.Omega.{arith}
 use lib.Dec.{T, leb, leb→le, lit<}
-use lib.Pow.{pow-pos}
+use lib.Pow.{pow-pos, pow-lt}
 use borrow.Author.Tests.{leb-true, leb-false}
 use Rattle.bits.specs.Bits.{bit, number}
 use Rattle.bus.specs.Range.{within, width, wireOf, valueOf}
@@ -28,6 +28,11 @@ wires-small r v = number-lt 32 (λ i. bit v (bitAt r i))
 pub value-lt : (r : Range) (x : ℕ) → valueOf r x < 2 ^ width r
 unfolding valueOf
 value-lt r x = number-lt (width r) (λ k. bit x (wireOf r k))
+
+-- a port has a wire, so 1 fits it
+pub one-fits : (r : Range) → 1 < 2 ^ width r
+unfolding width
+one-fits r = pow-lt {i = 0} {j = width r} (omega arith)
 
 -- wires that are all 0 have the value 0
 pub value-zero : (r : Range) → valueOf r 0 ≡ 0

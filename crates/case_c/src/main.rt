@@ -18,6 +18,7 @@ fn main() {
         r: unused,
         min: 0,
         value: 0,
+        severity: 0,
     };
     let mut monitor = Monitor { config, word: 0 };
     io::write_all(STDOUT_FILENO, b"cycle row word\n");

@@ -11,14 +11,15 @@ use Rattle.rules.specs.declared.config.Config.{Config}
 use Rattle.rules.specs.declared.frame.Frame.{Frame}
 use Rattle.rules.specs.Config.{Family, family}
 use Rattle.rules.specs.Config.Family.{time, transition, value, stability}
+use Rattle.rules.specs.Rules.{stoppedWord}
 use Rattle.rules.specs.Possible.{openCountOf, openCount, wordRefusal}
 use Rattle.rules.specs.Step.{Steps}
 use Rattle.checker.specs.Calls.{StepAnswer, CountAnswer}
 use Rattle.rules.proofs.Good.{family-time, family-transition, family-value, family-stability}
 
-count-are : (c : Config) (w : ℕ) (k : Family) → family (c .kind) ≡ k → openCountOf k w ≡ openCount c w
+count-are : (c : Config) (w : ℕ) (k : Family) → family (c .kind) ≡ k → (w ≡ stoppedWord → ⊥) → openCountOf k w ≡ openCount c w
 unfolding openCount
-count-are c w k e = sym (ap (λ (j : Family). openCountOf j w) e)
+count-are c w k e other = rw (ne-eqb w stoppedWord other) (sym (ap (λ (j : Family). openCountOf j w) e))
 
 -- ---- the answers
 
@@ -41,21 +42,30 @@ module _ (c : Config) (w : ℕ) where
       let n : eqb (wordRefusal c w) 0 ≡ false = ne-eqb (wordRefusal c w) 0 (λ z. h (e ∙ z)) in
       record { refusal-is = e; count-is = simp n }
 
-  pub count-taken : (k : Family) (count : ℕ) → family (c .kind) ≡ k → wordRefusal c w ≡ 0 → count ≡ openCountOf k w → CountAnswer c w 0 count
-  count-taken k count f z e =
+  -- a fatal checker that has failed
+  pub count-stopped : wordRefusal c w ≡ 0 → w ≡ stoppedWord → CountAnswer c w 0 0
+  unfolding openCount
+  count-stopped z e =
       let n : eqb (wordRefusal c w) 0 ≡ true = eq-eqb (wordRefusal c w) 0 z in
-      record { refusal-is = sym z; count-is = rw n (e ∙ count-are c w k f) }
+      record { refusal-is = sym z; count-is = rw (n, eq-eqb w stoppedWord e) refl }
+
+  pub count-taken : (k : Family) (count : ℕ) → family (c .kind) ≡ k → wordRefusal c w ≡ 0 → (w ≡ stoppedWord → ⊥) → count ≡ openCountOf k w
+      → CountAnswer c w 0 count
+  count-taken k count f z other e =
+      let n : eqb (wordRefusal c w) 0 ≡ true = eq-eqb (wordRefusal c w) 0 z in
+      record { refusal-is = sym z; count-is = rw n (e ∙ count-are c w k f other) }
 
   -- kinds 3 to 8: 1 when a check is unfinished
-  pub count-one : (count : ℕ) → 3 ≤ c .kind → c .kind < 9 → wordRefusal c w ≡ 0 → count ≡ toBit (not (eqb w 0)) → CountAnswer c w 0 count
+  pub count-one : (count : ℕ) → 3 ≤ c .kind → c .kind < 9 → wordRefusal c w ≡ 0 → (w ≡ stoppedWord → ⊥) → count ≡ toBit (not (eqb w 0))
+      → CountAnswer c w 0 count
   unfolding openCountOf
-  count-one count l h z e =
-      ⊎-elim (λ (eight : c .kind ≡ 8). count-taken stability count (family-stability (c .kind) eight) z is)
+  count-one count l h z other e =
+      ⊎-elim (λ (eight : c .kind ≡ 8). count-taken stability count (family-stability (c .kind) eight) z other is)
       (λ (below-8 : c .kind < 8).
-      ⊎-elim (λ (seven : c .kind ≡ 7). count-taken value count (family-value (c .kind) seven) z is)
+      ⊎-elim (λ (seven : c .kind ≡ 7). count-taken value count (family-value (c .kind) seven) z other is)
       (λ (below-7 : c .kind < 7).
-      ⊎-elim (λ (six : c .kind ≡ 6). count-taken transition count (family-transition (c .kind) six) z is)
-      (λ (below-6 : c .kind < 6). count-taken time count (family-time (c .kind) l below-6) z is) (eq-or-lt-of-le (le-of-suc-le-suc below-7)))
+      ⊎-elim (λ (six : c .kind ≡ 6). count-taken transition count (family-transition (c .kind) six) z other is)
+      (λ (below-6 : c .kind < 6). count-taken time count (family-time (c .kind) l below-6) z other is) (eq-or-lt-of-le (le-of-suc-le-suc below-7)))
       (eq-or-lt-of-le (le-of-suc-le-suc below-8)))
       (eq-or-lt-of-le (le-of-suc-le-suc h))
     where

@@ -2,6 +2,7 @@
 use cycle::to_bit;
 use open_words::refusal;
 use rules::Config;
+use rules::STOPPED;
 ghost use Rattle.checker.specs.Calls.{CountAnswer};
 
 // The refusal number or 0, and the count, which is 0 where it is refused.
@@ -18,6 +19,12 @@ pub fn open_count(c: Config, word: u64) -> OpenCount
     if refused != 0 {
         return OpenCount {
             refusal: refused,
+            count: 0,
+        };
+    }
+    if word == STOPPED {
+        return OpenCount {
+            refusal: 0,
             count: 0,
         };
     }

@@ -1,5 +1,6 @@
 // The limits of a configuration's numbers.
 use rules::Config;
+use rules::FATAL;
 use rules::MAX_EVENTS;
 use rules::MAX_WINDOW;
 use rules::MIN_EVENTS;
@@ -7,11 +8,11 @@ use rules::MIN_WINDOW;
 ghost use mathlib.Core.Path.{_≡_};
 ghost use Rattle.rules.specs.Config.{nFits, minFits, limits};
 
-// Whether n and min are inside their limits.
+// Whether n, min and the severity are inside their limits.
 pub fn within_limits(c: Config) -> bool
     ensures { λ r. ⌜ r ≡ limits c ⌝ }
 {
-    n_fits(c) & min_fits(c)
+    n_fits(c) & min_fits(c) & (c.severity <= FATAL)
 }
 
 // Whether n is inside the limits of the kind.

@@ -21,7 +21,7 @@ use Rattle.rules.specs.Config.{Family, family, maxWindow}
 use Rattle.rules.specs.Config.Family.{sequence, time, transition, value, stability, none}
 use Rattle.rules.specs.Frame.{up, P}
 use Rattle.rules.specs.Rules.{Marks, rowOf}
-use Rattle.rules.specs.Step.{leftIn, attemptFails, pends, trackedMarks, stepMarksOf, stepRow}
+use Rattle.rules.specs.Step.{leftIn, attemptFails, pends, trackedMarks, stepMarksOf, goingStepRow}
 use Rattle.rules.specs.Possible.{possibleOf}
 use Rattle.rules.proofs.Good.{family-time, family-transition, family-value, family-stability, kind-low, possible-are, sequence-config, time-config, value-config, stability-config}
 use Rattle.rules.proofs.TriggerWords.{word-parts}
@@ -154,7 +154,7 @@ module _ (c : Config) (w : ℕ) (f : Frame) where
 module _ (c : Config) (w : ℕ) (f : Frame) (row t : ℕ) (r : Ready c w f row t) where
   -- a mark is set out of reset alone
   out-of-reset : 0 < row % 4 → up f ≡ true
-  unfolding stepRow
+  unfolding goingStepRow
   out-of-reset h =
       ⊎-elim (λ (e : up f ≡ true). e)
       (λ (e : up f ≡ false).
@@ -163,7 +163,7 @@ module _ (c : Config) (w : ℕ) (f : Frame) (row t : ℕ) (r : Ready c w f row t
 
   marks-are : (k : Family) → family (c .kind) ≡ k → up f ≡ true
       → row % 4 ≡ toBit (stepMarksOf c w f k .failure) + 2 * toBit (stepMarksOf c w f k .illegal)
-  unfolding stepRow
+  unfolding goingStepRow
   marks-are k fam e =
       ap (λ (x : ℕ). x % 4) (r .row-is ∙ ap₂ (λ (b : Bool) (j : Family). cond b (rowOf (stepMarksOf c w f j)) 0) e fam)
       ∙ row-marks (stepMarksOf c w f k)

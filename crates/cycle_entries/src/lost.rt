@@ -10,11 +10,11 @@ ghost use Rattle.bits.specs.Bits.{bit, number};
 ghost use Rattle.rules.specs.Config.{Good, family};
 ghost use Rattle.rules.specs.Config.Family.{sequence};
 ghost use Rattle.rules.specs.Frame.{P};
-ghost use Rattle.rules.specs.Possible.{possible};
+ghost use Rattle.rules.specs.Possible.{goingPossible};
 
 // Bit j is 1 where the attempt that started j+1 cycles ago has not its event: of kind 0 the oldest alone.
 pub fn lost_attempts(c: Config, word: u64, frame: Frame) -> u64
-    requires { ⌜ (Good c) × (family (c .kind) ≡ sequence) × (T (possible c word)) ⌝ }
+    requires { ⌜ (Good c) × (family (c .kind) ≡ sequence) × (T (goingPossible c word)) ⌝ }
     ensures { λ r. ⌜ r ≡ number (c .n - 1) (λ (j : ℕ). bit word j && not (bit (P c frame) (c .n - 1 - suc j)) && (not (eqb (c .kind) 0) || eqb (suc j) (c .n - 1))) ⌝ }
 {
     let events = events_in_order(c, frame);

@@ -7,7 +7,7 @@ use trace::kept_at_end;
 use transition::descending_cycle;
 ghost use mathlib.Core.Bool.{false};
 ghost use mathlib.Core.Path.{_≡_};
-ghost use Rattle.rules.specs.Config.{family};
+ghost use Rattle.rules.specs.Config.{GoesOn};
 ghost use Rattle.rules.specs.Config.Family.{transition};
 ghost use Rattle.trace.specs.Stretches.{Runnable, Ran};
 ghost use Rattle.transition.specs.Ports.{Descends};
@@ -20,7 +20,7 @@ pub fn fill_descending(
     words: &mut [u64],
     s: Stretch,
 ) -> Reached
-    requires { ⌜ (Runnable c (now trace) (now rows) (now words) s) × (family (c .kind) ≡ transition) × (Descends c) × (s .stops ≡ false) ⌝ }
+    requires { ⌜ (Runnable c (now trace) (now rows) (now words) s) × (GoesOn transition c) × (Descends c) × (s .stops ≡ false) ⌝ }
     ensures { λ r. ⌜ Ran c (now (trace .entry)) (now (rows .entry)) (now (words .entry)) s (now (rows .exit)) (now (words .exit)) r ⌝ }
 {
     let from = s.from;

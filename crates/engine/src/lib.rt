@@ -1,4 +1,4 @@
-// One run of a stretch, for a configuration and an open word that were tested: it looks at the family.
-mod family;
+// One run of a stretch, for a configuration and an open word that were tested.
+mod severity;
 
-pub use family::run;
+pub use severity::run;

@@ -16,6 +16,7 @@ fn transition() -> Config {
         r: wire,
         min: 0,
         value: 0,
+        severity: 0,
     }
 }
 

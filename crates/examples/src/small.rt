@@ -49,6 +49,7 @@ pub fn checker(kind: u8, n: u32, high: u8) -> Config {
         r: no_port(),
         min: 0,
         value: 0,
+        severity: 0,
     }
 }
 

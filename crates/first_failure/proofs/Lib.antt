@@ -1,4 +1,3 @@
 -- Laws of the search for the first failure, and the proofs of its functions.
 pub mod Refusals
-pub mod Marks
 pub mod Searches

@@ -8,7 +8,8 @@ use native.Mathlib.Nat.{eq-or-lt-of-le, le-of-suc-le-suc, mul-le-mul, mul-le-mul
 use native.Mathlib.Omega.{arith}
 use lib.Dec.{T}
 use Rattle.bits.proofs.Tests.{of-true, of-false}
-use Rattle.first_failure.specs.Search.{failing, rowAt, Searched}
+use Rattle.rules.specs.Rules.{failing}
+use Rattle.first_failure.specs.Search.{rowAt, Searched}
 
 -- the row of checker k in cycle t lies among the rows, and its place is small
 pub row-in : (checkers cycles k t : ℕ) → k < checkers → t < cycles → k * cycles + t < checkers * cycles

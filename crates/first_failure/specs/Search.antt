@@ -1,17 +1,13 @@
 -- The first failure, from document 01, "What the viewer calls" and "Refusal numbers". Assumes nothing.
 use Prim.Native.Nat.{ℕ, _+_, _*_, _<_}
 use mathlib.Core.Path.{_≡_}
-use mathlib.Core.Bool.{Bool, true, false, _||_, cond}
+use mathlib.Core.Bool.{Bool, true, false, cond}
 use mathlib.Core.List.{List}
 use lib.Dec.{T, leb, eqb}
 use lib.ListN.{length, getD}
-use Rattle.bits.specs.Bits.{bit}
+use Rattle.rules.specs.Rules.{failing}
 use Rattle.first_failure.specs.declared.search.FirstFailure.{FirstFailure}
 use Rattle.first_failure.specs.declared.search.FirstFailure.the-variants.{Refused, Nothing, At}
-
--- a row "with mark 1 or 2", whatever its other bits are
-unfoldable pub failing : ℕ → Bool
-failing row = bit row 0 || bit row 1
 
 -- "K lots of N rows, checker by checker": the row of checker k in cycle t
 abbrev pub rowAt : List ℕ → ℕ → ℕ → ℕ → ℕ

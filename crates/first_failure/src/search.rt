@@ -1,8 +1,9 @@
 // The first failing cycle of several checkers' rows, and the first checker that fails in it.
+use fatal::fails;
 ghost use mathlib.Core.Path.{_≡_};
 ghost use Prim.Native.Nat.{_*_, _≤_};
 ghost use lib.ListN.{length};
-ghost use Rattle.first_failure.specs.Search.{failing, searchRefusal, refusalOf, isFound, checkerOf, cycleOf, SearchAnswer, Searched};
+ghost use Rattle.first_failure.specs.Search.{searchRefusal, refusalOf, isFound, checkerOf, cycleOf, SearchAnswer, Searched};
 
 // A refusal; or that no row has mark 1 or 2; or the checker and the cycle of the first that has.
 pub enum FirstFailure {
@@ -53,11 +54,4 @@ fn search(checkers: usize, cycles: usize, rows: &[u32]) -> FirstFailure
         }
     }
     found
-}
-
-// Whether a row has mark 1 or 2.
-fn fails(row: u32) -> bool
-    ensures { λ r. ⌜ r ≡ failing row ⌝ }
-{
-    row % 4 != 0
 }

@@ -1,4 +1,4 @@
--- How far beyond the edit a recheck of a true record can run: at most n−1 cycles for kinds 0 and 1, n for kind 4, and 1 for kind 6.
+-- How far beyond the edit a recheck of a true record of a checker that goes on can run: at most n−1 cycles for kinds 0 and 1, n for kind 4, and 1 for kind 6.
 --
 -- From b on both traces have the same frames, so both words go on by the same steps. Two possible words that take d steps on the same frames are
 -- equal after them (`Merges`), so the recheck ends at b + d or before. Kinds 0 and 1: a step makes bit 0 from the frame alone and each other bit from
@@ -22,10 +22,11 @@ use Rattle.rules.specs.Config.{Family, family, Good}
 use Rattle.rules.specs.Config.Family.{sequence, time, transition}
 use Rattle.rules.specs.Frame.{Trace, up, P}
 use Rattle.rules.specs.Rules.{word, wordBefore}
-use Rattle.rules.specs.Step.{startsAttempt, attempt, start, left, stepOpenOf, stepWord}
+use Rattle.rules.specs.Step.{startsAttempt, attempt, start, left, stepOpenOf, goingStepWord, stepWord}
 use Rattle.rules.specs.Possible.{possibleOf}
 use Rattle.rules.proofs.Good.{family-sequence, family-time, family-transition, possible-are}
 use Rattle.rules.proofs.SequenceWords.{possible-lt}
+use Rattle.rules.proofs.Severity.{goes-possible, goes-word}
 use Rattle.rules.proofs.Reached.{before-possible}
 use Rattle.rules.proofs.Claims.{step-is-rules}
 use Rattle.trace.specs.Traces.{frames, frameAt}
@@ -47,18 +48,18 @@ record Merges (c : Config) (g : Family) (d : ℕ) (R : ℕ → ℕ → ℕ → T
   step : (k x y : ℕ) (f : Frame) → R k x y → R (suc k) (stepOpenOf c x f g) (stepOpenOf c y f g)
   last : (x y : ℕ) → T (possibleOf g c x) → T (possibleOf g c y) → R d x y → x ≡ y
 
-module _ (c : Config) (good : Good c) (g : Family) (family-is : family (c .kind) ≡ g) (d : ℕ) (R : ℕ → ℕ → ℕ → Type 0) (m : Merges c g d R) where
+module _ (c : Config) (good : Good c) (on : c .severity ≡ 0) (g : Family) (family-is : family (c .kind) ≡ g) (d : ℕ) (R : ℕ → ℕ → ℕ → Type 0) (m : Merges c g d R) where
   -- a step in reset or out of it
   step-any : (k x y : ℕ) (f : Frame) → R k x y → R (suc k) (stepWord c x f) (stepWord c y f)
-  unfolding stepWord
-  step-any k x y f h = rw family-is (by (up f))
+  unfolding goingStepWord
+  step-any k x y f h = rw (goes-word c on x f, goes-word c on y f, family-is) (by (up f))
     where
       by : (b : Bool) → R (suc k) (cond b (stepOpenOf c x f g) 0) (cond b (stepOpenOf c y f g) 0)
       by true = m .step k x y f h
       by false = m .reset (suc k)
 
   before-of : (tr : Trace) (t : ℕ) → T (possibleOf g c (wordBefore c tr t))
-  before-of tr t = rw (possible-are c (wordBefore c tr t) g family-is) (before-possible c good tr t)
+  before-of tr t = rw (possible-are c (wordBefore c tr t) g family-is) (goes-possible c on (wordBefore c tr t) (before-possible c good tr t))
 
   module _ (old trace : List ℕ) (a b e : ℕ) (edited : Edited old trace a b) where
     -- k cycles after b
@@ -98,10 +99,10 @@ sequence-merges c low = record {
   last = λ x y p q h. same-bits (c .n - 1) x y (possible-lt c x p) (possible-lt c y q) (λ j l. h j l l);
 }
 
-sequence-limit : (c : Config) → Good c → c .kind ≤ 1 → (old trace : List ℕ) (a b e : ℕ) → Edited old trace a b
+sequence-limit : (c : Config) → Good c → c .severity ≡ 0 → c .kind ≤ 1 → (old trace : List ℕ) (a b e : ℕ) → Edited old trace a b
     → Ends (wordBefore c (frameAt trace)) (wordBefore c (frameAt old)) b (frames trace) e → e ≤ b + (c .n - 1)
-sequence-limit c good low =
-    limit c good sequence (family-sequence (c .kind) (omega arith)) (c .n - 1) (SameBelow c) (sequence-merges c low)
+sequence-limit c good on low =
+    limit c good on sequence (family-sequence (c .kind) (omega arith)) (c .n - 1) (SameBelow c) (sequence-merges c low)
 
 -- ---- kind 4
 
@@ -126,10 +127,10 @@ reset-merges c e = record {
     by k x y true h = inl refl
     by k x y false h = ⊎-elim (λ s. inl (ap (λ (w : ℕ). w - 1) s)) (λ s. inr (omega arith)) h
 
-reset-limit : (c : Config) → Good c → c .kind ≡ 4 → (old trace : List ℕ) (a b e : ℕ) → Edited old trace a b
+reset-limit : (c : Config) → Good c → c .severity ≡ 0 → c .kind ≡ 4 → (old trace : List ℕ) (a b e : ℕ) → Edited old trace a b
     → Ends (wordBefore c (frameAt trace)) (wordBefore c (frameAt old)) b (frames trace) e → e ≤ b + c .n
-reset-limit c good four =
-    limit c good time (family-time (c .kind) (omega arith) (omega arith)) (c .n) (SameOrShort c) (reset-merges c four)
+reset-limit c good on four =
+    limit c good on time (family-time (c .kind) (omega arith) (omega arith)) (c .n) (SameOrShort c) (reset-merges c four)
 
 -- ---- kind 6
 
@@ -146,15 +147,15 @@ transition-merges c = record {
   last = λ x y p q h. h (le-refl 1);
 }
 
-transition-limit : (c : Config) → Good c → c .kind ≡ 6 → (old trace : List ℕ) (a b e : ℕ) → Edited old trace a b
+transition-limit : (c : Config) → Good c → c .severity ≡ 0 → c .kind ≡ 6 → (old trace : List ℕ) (a b e : ℕ) → Edited old trace a b
     → Ends (wordBefore c (frameAt trace)) (wordBefore c (frameAt old)) b (frames trace) e → e ≤ b + 1
-transition-limit c good six = limit c good transition (family-transition (c .kind) six) 1 SameAfter (transition-merges c)
+transition-limit c good on six = limit c good on transition (family-transition (c .kind) six) 1 SameAfter (transition-merges c)
 
 -- the end of a recheck of the old trace's true record
-pub limited : (c : Config) → Good c → (old trace : List ℕ) (a b e : ℕ) → Edited old trace a b
+pub limited : (c : Config) → Good c → c .severity ≡ 0 → (old trace : List ℕ) (a b e : ℕ) → Edited old trace a b
     → Ends (wordBefore c (frameAt trace)) (wordBefore c (frameAt old)) b (frames trace) e → Limited c b e
-limited c good old trace a b e edited r = record {
-  pipelined = λ k. sequence-limit c good k old trace a b e edited r;
-  restarted = λ k. reset-limit c good k old trace a b e edited r;
-  stored = λ k. transition-limit c good k old trace a b e edited r;
+limited c good on old trace a b e edited r = record {
+  pipelined = λ k. sequence-limit c good on k old trace a b e edited r;
+  restarted = λ k. reset-limit c good on k old trace a b e edited r;
+  stored = λ k. transition-limit c good on k old trace a b e edited r;
 }

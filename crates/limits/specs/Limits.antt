@@ -1,4 +1,5 @@
--- How far a recheck can run, from document 01, "What the viewer calls". That every recheck of a true record keeps to it is `limited` of
+-- How far a recheck can run, from document 01, "What the viewer calls", for checkers that go on: for fatal ones, document 02, §7, "the limits on e are
+-- withdrawn". That every recheck of a true record keeps to it is `limited` of
 -- `proofs/Limits.antt`. Assumes nothing.
 use Prim.Native.Nat.{ℕ, _+_, _-_, _≤_}
 use mathlib.Core.Path.{_≡_}

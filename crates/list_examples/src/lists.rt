@@ -69,6 +69,7 @@ fn two_ports(kind: u8, n: u32, p: Range, q: Range) -> Config {
         r: Range { left: 0, right: 0 },
         min: 0,
         value: 0,
+        severity: 0,
     }
 }
 

@@ -2,9 +2,9 @@
 -- mark 1, or 2, exactly when bit 0, or 1, of the row of t is set (`listed-1`, `listed-2`). Its entries ascend strictly by cycle, mark and start (`ascending`), so
 -- none stands twice (`once`). Those bits are the row's marks 1 and 2, which say that some check before t fails there, or is pending at an illegal start, and the
 -- list goes through the same checks (`mark-1`, `mark-2`). It is made of ascending lists that stand in ascending order. Assumes nothing.
-use Prim.Native.Nat.{ℕ, zero, suc, _+_, _*_, _<_}
+use Prim.Native.Nat.{ℕ, zero, suc, _<_, zero-le}
 use mathlib.Core.Path.{_≡_, refl, sym, ap, subst, subst₂, _∙_}
-use mathlib.Core.Bool.{Bool, true, false, _&&_, _||_, and-false, or-false}
+use mathlib.Core.Bool.{Bool, true, false, not, _&&_, _||_, cond, and-false, or-false}
 use mathlib.Core.List.{map, List·Memᴰ, List·Memᴰ·not-nil, List·Memᴰ·append-cases, Memᴰ·append-left, Memᴰ·append-right, Memᴰ·map, Memᴰ·of-map}
 use mathlib.Core.Logic.{_↔_, ⊎-elim}
 use native.Mathlib.Nat.{le-of-suc-le-suc, not-suc-le-zero, eq-or-lt-of-le, le-refl, le-step}
@@ -12,8 +12,8 @@ use native.Mathlib.Omega.{arith}
 use borrow.Author.Tests.{le-ltb, ne-eqb}
 use lib.Dec.{T, eqb, lit<}
 use lib.ListN.{length, getD}
-use Rattle.bits.specs.Bits.{toBit, bit, some}
-use Rattle.bits.proofs.Bits.{toBit-lt, eqb-toBit, bit-low, bit-double}
+use Rattle.bits.specs.Bits.{bit, some}
+use Rattle.bits.proofs.Bits.{bit-past}
 use Rattle.bits.proofs.Tests.{either, some-none, some-intro, some-elim}
 use Rattle.rules.specs.declared.config.Config.{Config}
 use Rattle.rules.specs.Config.{Family, family, Good}
@@ -24,30 +24,13 @@ use Rattle.rules.specs.Sequence.{event, sequenceChecks}
 use Rattle.rules.specs.Time.{startSeen, windowPending, timeChecks, illegalStart}
 use Rattle.rules.specs.Transition.{transitionChecks}
 use Rattle.rules.specs.Trigger.{triggerSeen, tested, triggerChecks, valueChecks, stabilityChecks}
-use Rattle.rules.specs.Rules.{Marks, rowOf, marksOf, row}
+use Rattle.rules.specs.Rules.{marksOf, goingRow, stoppedBefore, row}
+use Rattle.rules.proofs.Rows.{row-failure, row-illegal}
 use Rattle.rules.proofs.Good.{family-time, not-none}
-use Rattle.listed.specs.Lists.{Entry, entry, chosen, checksOf, failed, illegal, failuresAt, failuresTo}
+use Rattle.listed.specs.Lists.{Entry, entry, chosen, checksOf, goingFailed, goingIllegal, failed, illegal, failuresAt, failuresTo}
 use Rattle.listed.proofs.Ascending.{Ascending, ascending-append, ascending-at, ascending-map, chosen-holds, chosen-member, chosen-ascending, member-at, index-of}
 
 -- ---- marks 1 and 2 of a row
-
--- bits 0 and 1 of a row are the first two marks
-module _ (m : Marks) where
-  abbrev rest : ℕ
-  rest = toBit (m .opened) + 2 * toBit (m .closed) + 4 * toBit (m .restarted)
-
-  row-halves : rowOf m ≡ (rest * 2 + toBit (m .illegal)) * 2 + toBit (m .failure)
-  unfolding rowOf
-  row-halves = omega arith
-
-  row-failure : bit (rowOf m) 0 ≡ m .failure
-  row-failure = rw (row-halves, bit-low (rest * 2 + toBit (m .illegal)) (toBit (m .failure)) (toBit-lt (m .failure))) (eqb-toBit (m .failure))
-
-  row-illegal : bit (rowOf m) 1 ≡ m .illegal
-  row-illegal =
-      rw row-halves
-      (bit-double (rest * 2 + toBit (m .illegal)) (toBit (m .failure)) 0 (toBit-lt (m .failure))
-      ∙ bit-low rest (toBit (m .illegal)) (toBit-lt (m .illegal)) ∙ eqb-toBit (m .illegal))
 
 -- a cycle in reset violates no check and starts none
 module _ (c : Config) (tr : Trace) (t : ℕ) (down : up (tr t) ≡ false) where
@@ -99,8 +82,8 @@ module _ (c : Config) (good : Good c) (tr : Trace) (t : ℕ) where
   marks-illegal none e = absurd (not-none c good e)
 
   -- no time check is pending in the cycle where it starts
-  not-at-start : illegal c tr t t ≡ false
-  unfolding illegal checksOf timeChecks windowPending
+  not-at-start : goingIllegal c tr t t ≡ false
+  unfolding goingIllegal checksOf timeChecks windowPending
   not-at-start = by (family (c .kind)) refl
     where
       by : (k : Family) → family (c .kind) ≡ k
@@ -112,33 +95,46 @@ module _ (c : Config) (good : Good c) (tr : Trace) (t : ℕ) where
       by stability e = rw (not-five stability e (λ q. let z : _≡_ {A = ℕ} 0 1 = cc in omega arith)) refl
       by none e = absurd (not-none c good e)
 
--- Bit 0 of a row: some check fails. Bit 1: there is an illegal start while some check is pending.
-pub mark-1 : (c : Config) → Good c → (tr : Trace) (t : ℕ) → bit (row c tr t) 0 ≡ some (suc t) (failed c tr t)
-unfolding row failed fails bit
-mark-1 c good tr t = ⊎-elim running in-reset (either (up (tr t)))
+-- Bit 0 of a row: some check fails. Bit 1: there is an illegal start while some check is pending. First of a checker that goes on.
+going-1 : (c : Config) → Good c → (tr : Trace) (t : ℕ) → bit (goingRow c tr t) 0 ≡ some (suc t) (goingFailed c tr t)
+unfolding goingRow goingFailed fails bit
+going-1 c good tr t = ⊎-elim running in-reset (either (up (tr t)))
   where
-    running : up (tr t) ≡ true → bit (row c tr t) 0 ≡ some (suc t) (failed c tr t)
+    running : up (tr t) ≡ true → bit (goingRow c tr t) 0 ≡ some (suc t) (goingFailed c tr t)
     running e = rw e (row-failure (marksOf (family (c .kind)) c tr t) ∙ marks-failure c good tr t (family (c .kind)) refl)
 
-    in-reset : up (tr t) ≡ false → bit (row c tr t) 0 ≡ some (suc t) (failed c tr t)
-    in-reset e = rw e (sym (some-none (suc t) (failed c tr t) (λ s _. rw (not-violated c tr t e (family (c .kind)) s, and-false))))
+    in-reset : up (tr t) ≡ false → bit (goingRow c tr t) 0 ≡ some (suc t) (goingFailed c tr t)
+    in-reset e = rw e (sym (some-none (suc t) (goingFailed c tr t) (λ s _. rw (not-violated c tr t e (family (c .kind)) s, and-false))))
 
-pub mark-2 : (c : Config) → Good c → (tr : Trace) (t : ℕ) → bit (row c tr t) 1 ≡ some (suc t) (illegal c tr t)
-unfolding row illegal busy bit some
-mark-2 c good tr t = ⊎-elim running in-reset (either (up (tr t)))
+going-2 : (c : Config) → Good c → (tr : Trace) (t : ℕ) → bit (goingRow c tr t) 1 ≡ some (suc t) (goingIllegal c tr t)
+unfolding goingRow goingIllegal busy bit some
+going-2 c good tr t = ⊎-elim running in-reset (either (up (tr t)))
   where
     k : Checks
     k = checksOf (family (c .kind)) c tr
 
-    running : up (tr t) ≡ true → bit (row c tr t) 1 ≡ some (suc t) (illegal c tr t)
+    running : up (tr t) ≡ true → bit (goingRow c tr t) 1 ≡ some (suc t) (goingIllegal c tr t)
     running e =
         rw e
         (row-illegal (marksOf (family (c .kind)) c tr t) ∙ marks-illegal c good tr t (family (c .kind)) refl
         ∙ sym (some-and t (eqb (c .kind) 5 && k .starts t) (λ s. accepted k s && k .pending s t))
-        ∙ sym (ap (λ (b : Bool). some t (illegal c tr t) || b) (not-at-start c good tr t) ∙ or-false (some t (illegal c tr t))))
+        ∙ sym (ap (λ (b : Bool). some t (goingIllegal c tr t) || b) (not-at-start c good tr t) ∙ or-false (some t (goingIllegal c tr t))))
 
-    in-reset : up (tr t) ≡ false → bit (row c tr t) 1 ≡ some (suc t) (illegal c tr t)
-    in-reset e = rw e (sym (some-none (suc t) (illegal c tr t) (λ s _. rw (not-started c tr t e (family (c .kind)), and-false))))
+    in-reset : up (tr t) ≡ false → bit (goingRow c tr t) 1 ≡ some (suc t) (goingIllegal c tr t)
+    in-reset e = rw e (sym (some-none (suc t) (goingIllegal c tr t) (λ s _. rw (not-started c tr t e (family (c .kind)), and-false))))
+
+-- a fatal one has no row and no entries behind its first failure
+layered : (b : Bool) (row i k : ℕ) (f : ℕ → Bool) → bit row i ≡ some k f → bit (cond b 0 row) i ≡ some k (λ s. not b && f s)
+layered true row i k f e = bit-past 0 0 i (lit< tt) zero-le ∙ sym (some-none k (λ s. false) (λ s _. refl))
+layered false row i k f e = e
+
+pub mark-1 : (c : Config) → Good c → (tr : Trace) (t : ℕ) → bit (row c tr t) 0 ≡ some (suc t) (failed c tr t)
+unfolding row failed
+mark-1 c good tr t = layered (stoppedBefore c tr t) (goingRow c tr t) 0 (suc t) (goingFailed c tr t) (going-1 c good tr t)
+
+pub mark-2 : (c : Config) → Good c → (tr : Trace) (t : ℕ) → bit (row c tr t) 1 ≡ some (suc t) (illegal c tr t)
+unfolding row illegal
+mark-2 c good tr t = layered (stoppedBefore c tr t) (goingRow c tr t) 1 (suc t) (goingIllegal c tr t) (going-2 c good tr t)
 
 -- ---- the entries
 

@@ -23,14 +23,14 @@ use Rattle.rules.specs.Checks.{accepted}
 use Rattle.rules.specs.Sequence.{sequenceChecks}
 use Rattle.rules.specs.Time.{startSeen, testSeen, restarts, timeChecks}
 use Rattle.rules.specs.Transition.{transitionChecks, stored}
-use Rattle.rules.specs.Rules.{wordBefore}
+use Rattle.rules.specs.Rules.{goingBefore}
 use Rattle.rules.specs.Step.{leftIn, holds, referenceIn, start, pends, restart, tests, trackedMarks, stepMarksOf}
 use Rattle.rules.proofs.Good.{family-time, stability-config, not-none}
 use Rattle.rules.proofs.SequenceRules.{not-at-start, pending-bit, bit-young}
 use Rattle.rules.proofs.TimeRules.{pending-count, count-young}
 use Rattle.rules.proofs.TransitionRules.{value-fails, word-stored}
 use Rattle.rules.proofs.TriggerRules.{value-violated, value-young, stability-violated, stability-young}
-use Rattle.listed.specs.Lists.{checksOf, failed, illegal}
+use Rattle.listed.specs.Lists.{checksOf, goingFailed, goingIllegal}
 use Rattle.listed.specs.Starts.{triggeredAt, failedOf, illegalOf, fails, startsIllegally, Placed}
 
 -- ---- tests: a for accepted, u for out of reset, p for pending
@@ -66,12 +66,12 @@ module _ (c : Config) (tr : Trace) where
   -- the check from s fails in t by the rules of a family where it is found to, and so for an illegal start
   abbrev Failing : Family → ℕ → ℕ → Type 0
   Failing k t s =
-      (accepted (checksOf k c tr) s && checksOf k c tr .violated s t) ≡ (up (tr t) && failedOf c (wordBefore c tr t) (tr t) t k s)
+      (accepted (checksOf k c tr) s && checksOf k c tr .violated s t) ≡ (up (tr t) && failedOf c (goingBefore c tr t) (tr t) t k s)
 
   abbrev Illegal : Family → ℕ → ℕ → Type 0
   Illegal k t s =
       (eqb (c .kind) 5 && checksOf k c tr .starts t && (accepted (checksOf k c tr) s && checksOf k c tr .pending s t))
-      ≡ (up (tr t) && illegalOf c (wordBefore c tr t) (tr t) t k s)
+      ≡ (up (tr t) && illegalOf c (goingBefore c tr t) (tr t) t k s)
 
   earlier-failed : family (c .kind) ≡ sequence → (t s : ℕ) → s < t → Failing sequence t s
   unfolding checksOf sequenceChecks failedOf
@@ -90,7 +90,7 @@ module _ (c : Config) (tr : Trace) where
     time-failed : Failing time t s
     unfolding checksOf timeChecks startSeen testSeen restarts failedOf stepMarksOf start pends restart
     time-failed =
-        let w = wordBefore c tr t in
+        let w = goingBefore c tr t in
         let test = not (testSeen c tr t) in
         reset-first (accepted (timeChecks c tr) s) (up (tr t)) (timeChecks c tr .pending s t) test (not (restarts c tr t))
         ∙ rw (pending-count c tr f t s)
@@ -99,13 +99,13 @@ module _ (c : Config) (tr : Trace) where
     time-illegal : Illegal time t s
     unfolding checksOf timeChecks startSeen illegalOf stepMarksOf start pends
     time-illegal =
-        let w = wordBefore c tr t in
+        let w = goingBefore c tr t in
         rw (pending-count c tr f t s)
         (illegal-tests (up (tr t)) (eqb (suc (s + c .n)) (w + t)) (pends c w (tr t)) (eqb (c .kind) 5) (start c w (tr t)))
 
   -- a transition check in the next cycle, and in any
   next-failed : family (c .kind) ≡ transition → (s : ℕ) → Failing transition (suc s) s
-  unfolding checksOf transitionChecks failedOf stepMarksOf pends wordBefore stored
+  unfolding checksOf transitionChecks failedOf stepMarksOf pends goingBefore stored
   next-failed f s =
       let here = reset-first (accepted (transitionChecks c tr) s) (up (tr (suc s))) true (not (eqb (P c (tr (suc s))) (R c (tr s)))) true in
       rw (eq-eqb (suc s) (suc s) refl, word-stored c tr f s, ← value-fails) (simp and-true (simp and-true at here))
@@ -117,29 +117,29 @@ module _ (c : Config) (tr : Trace) where
       (λ (e : eqb (suc s) t ≡ false). rw (ne-eqb t (suc s) (λ q. eqb-false (suc s) t e (sym q)), e) (simp and-false)) (either (eqb (suc s) t))
 
   -- no check after a trigger fails in reset
-  quiet : (t before : ℕ) (wrong : Bool) → up (tr t) ≡ false → trackedMarks c (wordBefore c tr t) (tr t) before wrong .failure ≡ false
+  quiet : (t before : ℕ) (wrong : Bool) → up (tr t) ≡ false → trackedMarks c (goingBefore c tr t) (tr t) before wrong .failure ≡ false
   unfolding trackedMarks tests enabled
   quiet t before wrong u = rw u refl
 
   value-failed : family (c .kind) ≡ value → (t s : ℕ) → Failing value t s
   unfolding checksOf failedOf triggeredAt stepMarksOf
   value-failed f t s =
-      let w = wordBefore c tr t in
+      let w = goingBefore c tr t in
       let wrong = not (eqb (P c (tr t)) (c .value)) in
       value-violated c tr f t s ∙ only-running (up (tr t)) (triggeredAt c w (tr t) t w s) (trackedMarks c w (tr t) w wrong .failure) (quiet t w wrong)
 
   stability-failed : c .n < 2 ^ 16 → family (c .kind) ≡ stability → (t s : ℕ) → Failing stability t s
   unfolding checksOf failedOf triggeredAt stepMarksOf
   stability-failed h f t s =
-      let w = wordBefore c tr t in
+      let w = goingBefore c tr t in
       let wrong = holds w && not (eqb (P c (tr t)) (referenceIn w)) in
       stability-violated c tr f h t s
       ∙ only-running (up (tr t)) (triggeredAt c w (tr t) t (leftIn w) s) (trackedMarks c w (tr t) (leftIn w) wrong .failure) (quiet t (leftIn w) wrong)
 
 -- ---- all kinds
 
-pub failed-starts : (c : Config) → Good c → (tr : Trace) (t s : ℕ) → s < suc t → failed c tr t s ≡ fails c (wordBefore c tr t) (tr t) t s
-unfolding failed fails
+pub failed-starts : (c : Config) → Good c → (tr : Trace) (t s : ℕ) → s < suc t → goingFailed c tr t s ≡ fails c (goingBefore c tr t) (tr t) t s
+unfolding goingFailed fails
 failed-starts c good tr t s l = by (family (c .kind)) refl
   where
     by : (k : Family) → family (c .kind) ≡ k → Failing c tr k t s
@@ -151,8 +151,8 @@ failed-starts c good tr t s l = by (family (c .kind)) refl
     by none f = absurd (not-none c good f)
 
 pub illegal-starts : (c : Config) → Good c → (tr : Trace) (t s : ℕ) → s < suc t
-    → illegal c tr t s ≡ startsIllegally c (wordBefore c tr t) (tr t) t s
-unfolding illegal startsIllegally illegalOf
+    → goingIllegal c tr t s ≡ startsIllegally c (goingBefore c tr t) (tr t) t s
+unfolding goingIllegal startsIllegally illegalOf
 illegal-starts c good tr t s l = by (family (c .kind)) refl
   where
     by : (k : Family) → family (c .kind) ≡ k → Illegal c tr k t s
@@ -163,8 +163,8 @@ illegal-starts c good tr t s l = by (family (c .kind)) refl
     by stability f = rw (not-five c (λ e. let z : _≡_ {A = ℕ} 0 1 = cc in omega arith)) (sym (and-false (up (tr t))))
     by none f = absurd (not-none c good f)
 
-pub before-placed : (c : Config) → Good c → (tr : Trace) (t : ℕ) → Placed c (wordBefore c tr t) t
-unfolding wordBefore
+pub before-placed : (c : Config) → Good c → (tr : Trace) (t : ℕ) → Placed c (goingBefore c tr t) t
+unfolding goingBefore
 before-placed c good tr t = record {
   attempts = λ f. bit-young c tr f t;
   window = λ f. count-young c tr f t;
@@ -173,6 +173,6 @@ before-placed c good tr t = record {
   compared = λ f. stability-young c tr f (omega (arith, stability-config c good f .high)) t;
 }
   where
-    later : (u : ℕ) → 0 < wordBefore c tr u → 0 < u
+    later : (u : ℕ) → 0 < goingBefore c tr u → 0 < u
     later zero l = l
     later (suc u) l = omega arith

@@ -2,9 +2,9 @@
 use Prim.Native.Nat.{ℕ}
 use Rattle.rules.specs.declared.config.Config.{Config}
 
--- the configuration of the ten numbers
-abbrev pub configOf : ℕ → ℕ → ℕ → ℕ → ℕ → ℕ → ℕ → ℕ → ℕ → ℕ → Config
-configOf kind n p-left p-right q-left q-right r-left r-right min value = record {
+-- the configuration of the eleven numbers
+abbrev pub configOf : ℕ → ℕ → ℕ → ℕ → ℕ → ℕ → ℕ → ℕ → ℕ → ℕ → ℕ → Config
+configOf kind n p-left p-right q-left q-right r-left r-right min value severity = record {
   kind = kind;
   n = n;
   p = record { left = p-left; right = p-right };
@@ -12,4 +12,5 @@ configOf kind n p-left p-right q-left q-right r-left r-right min value = record 
   r = record { left = r-left; right = r-right };
   min = min;
   value = value;
+  severity = severity;
 }

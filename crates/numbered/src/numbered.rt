@@ -15,8 +15,9 @@ pub fn config_of(
     r_right: u8,
     min: u32,
     value: u32,
+    severity: u8,
 ) -> Config
-    ensures { λ r. ⌜ r ≡ configOf kind n «p_left» «p_right» «q_left» «q_right» «r_left» «r_right» min value ⌝ }
+    ensures { λ r. ⌜ r ≡ configOf kind n «p_left» «p_right» «q_left» «q_right» «r_left» «r_right» min value severity ⌝ }
 {
     Config {
         kind,
@@ -35,5 +36,6 @@ pub fn config_of(
         },
         min,
         value,
+        severity,
     }
 }

@@ -2,20 +2,40 @@
 use bits::low_ones;
 use config::config_refusal;
 use rules::Config;
+use rules::FATAL;
 use rules::REFERENCE_HELD;
 use rules::REFERENCE_UNIT;
+use rules::STOPPED;
 ghost use mathlib.Core.Path.{_≡_};
 ghost use mathlib.Core.Bool.{_&&_};
 ghost use Prim.Native.Nat.{_-_, _^_, _<_};
 ghost use lib.Dec.{leb, ltb};
 ghost use Rattle.rules.specs.Config.{Good, family};
 ghost use Rattle.rules.specs.Config.Family.{stability};
-ghost use Rattle.rules.specs.Possible.{withoutReference, withAReference, possible, wordRefusal};
+ghost use Rattle.rules.specs.Possible.{withoutReference, withAReference, goingPossible, canFail, possible, wordRefusal};
 
-// Whether some trace leaves the word.
+// Whether some trace leaves the word: 2^63 that of a fatal checker, which has failed.
 pub fn is_possible(c: Config, word: u64) -> bool
     requires { ⌜ Good c ⌝ }
     ensures { λ r. ⌜ r ≡ possible c word ⌝ }
+{
+    if is_unfinished(c, word) {
+        return true;
+    }
+    (c.severity == FATAL) & can_fail(c) & (word == STOPPED)
+}
+
+// Whether a checker can fail. Kind 8 with min equal to max has no reference before the one cycle that is tested.
+fn can_fail(c: Config) -> bool
+    ensures { λ r. ⌜ r ≡ canFail c ⌝ }
+{
+    !((c.kind == 8) & (c.min == c.n))
+}
+
+// Whether some trace leaves the word of a checker that goes on.
+fn is_unfinished(c: Config, word: u64) -> bool
+    requires { ⌜ Good c ⌝ }
+    ensures { λ r. ⌜ r ≡ goingPossible c word ⌝ }
 {
     let kind = c.kind;
     let n = c.n;
@@ -54,7 +74,7 @@ fn is_stored(word: u64, width: u32) -> bool
 // Kinds 7 and 8: whether the word is that of a window, or 0.
 fn is_window(c: Config, word: u64) -> bool
     requires { ⌜ (Good c) × (6 < c .kind) ⌝ }
-    ensures { λ r. ⌜ r ≡ possible c word ⌝ }
+    ensures { λ r. ⌜ r ≡ goingPossible c word ⌝ }
 {
     if c.kind == 7 {
         return word <= c.n as u64;

@@ -7,6 +7,7 @@ use lib.Count.{ones-le}
 use Rattle.rules.specs.declared.config.Config.{Config}
 use Rattle.rules.specs.Config.{Family, family}
 use Rattle.rules.specs.Config.Family.{sequence, time, transition, value, stability, none}
+use Rattle.rules.specs.Rules.{stoppedWord}
 use Rattle.rules.specs.Possible.{openCount, openCountOf, wordRefusal}
 use Rattle.checker.specs.Calls.{CountAnswer}
 
@@ -25,8 +26,9 @@ count-of-low none w h = omega arith
 
 pub count-low : (c : Config) (w refusal count : ℕ) → w < 2 ^ 64 → CountAnswer c w refusal count → count ≤ 64
 unfolding openCount
-count-low c w refusal count h a = rw (a .count-is) (by (eqb (wordRefusal c w) 0))
+count-low c w refusal count h a = rw (a .count-is) (by (eqb (wordRefusal c w) 0) (eqb w stoppedWord))
   where
-    by : (b : Bool) → cond b (openCountOf (family (c .kind)) w) 0 ≤ 64
-    by true = count-of-low (family (c .kind)) w h
-    by false = omega arith
+    by : (b s : Bool) → cond b (cond s 0 (openCountOf (family (c .kind)) w)) 0 ≤ 64
+    by true true = omega arith
+    by true false = count-of-low (family (c .kind)) w h
+    by false s = omega arith

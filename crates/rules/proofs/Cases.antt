@@ -1,11 +1,11 @@
--- Claim 1: the twelve cases of the whiteboard table and the six below it follow from the rules' definitions, rows and words, by computation. Assumes nothing.
+-- Claim 1: the twelve cases of the whiteboard table and the ten below it follow from the rules' definitions, rows and words, by computation. Assumes nothing.
 use mathlib.Core.List.{map}
 use Rattle.rules.specs.Frame.{up, enabled}
-use Rattle.rules.specs.Rules.{row, word, rowOf, marksOf, openOf}
+use Rattle.rules.specs.Rules.{row, word, rowOf, marksOf, openOf, goingRow, goingWord, failing, stoppedBefore}
 use mathlib.Core.Path.{_≡_, refl}
 use Rattle.bits.specs.Bits.{bit, some, every, number}
 use Rattle.bus.specs.Range.{width, wireOf, valueOf}
-use Rattle.rules.specs.Config.{family}
+use Rattle.rules.specs.Config.{family, fatal}
 use Rattle.rules.specs.Checks.{accept, acceptedBefore, accepted, busy, fails}
 use Rattle.rules.specs.Sequence.{event, alive, attemptTested, sequenceChecks, mostSeen, attempts}
 use Rattle.rules.specs.Time.{windowPending, startSeen, testSeen, restarts, timeChecks, windowOpened, windowReset, illegalStart, windowClosed, cyclesLeft}
@@ -15,5 +15,5 @@ use Rattle.rules.specs.Trigger.{triggerSeen, triggerPending, inWindow, t
 use Rattle.rules.specs.Whiteboard.{table, byRules}
 
 pub whiteboard : map byRules table ≡ table
-unfolding bit some every number width wireOf valueOf family up accept acceptedBefore accepted busy fails event alive sequenceChecks mostSeen attempts between atLast startSeen testSeen restarts timeChecks windowOpened windowReset illegalStart windowClosed cyclesLeft transitionChecks stored rowOf marksOf openOf row word attemptTested windowPending enabled atFirst triggerSeen triggerPending inWindow tested triggerChecks valueChecks hasReference reference stabilityChecks windowEnds leftWith valueLeft stabilityLeft
+unfolding bit some every number width wireOf valueOf family up accept acceptedBefore accepted busy fails event alive sequenceChecks mostSeen attempts between atLast startSeen testSeen restarts timeChecks windowOpened windowReset illegalStart windowClosed cyclesLeft transitionChecks stored rowOf marksOf openOf goingRow goingWord failing fatal stoppedBefore row word attemptTested windowPending enabled atFirst triggerSeen triggerPending inWindow tested triggerChecks valueChecks hasReference reference stabilityChecks windowEnds leftWith valueLeft stabilityLeft
 whiteboard = refl

@@ -1,96 +1,138 @@
--- The claims about the rules of document 01, with what document 02 changed. Each is proved family by family in the files beside this one. Assumes nothing.
-use Prim.Native.Nat.{ℕ, suc, _^_, _<_}
-use mathlib.Core.Path.{_≡_, refl, ap}
-use mathlib.Core.Bool.{true, false}
+-- The claims about the rules of document 01, with what document 02 changed: for a checker that goes on they are those of `proofs/Going.antt`. A fatal checker has the
+-- same rows and words up to its first row with mark 1 or 2, and from then on the word 2^63, which is none of them. Assumes nothing.
+use Prim.Native.Nat.{ℕ, zero, suc, _<_}
+use mathlib.Core.Path.{_≡_, refl, sym, _∙_}
+use mathlib.Core.Bool.{Bool, true, false, _&&_, _||_, cond, and-false}
 use mathlib.Core.Logic.{⊎-elim}
+use native.Mathlib.Nat.{le-refl, le-of-suc-le-suc}
 use native.Mathlib.Omega.{arith}
-use lib.Dec.{T}
-use Rattle.bits.proofs.Tests.{either}
+use borrow.Author.Tests.{ne-eqb}
+use lib.Dec.{T, eqb, eqb→eq}
+use Rattle.bits.specs.Bits.{some}
+use Rattle.bits.proofs.Tests.{either, is-true, of-true, of-false, and-left, and-right, or-left, or-right, or-cases, some-intro, some-elim, some-none}
 use Rattle.rules.specs.declared.config.Config.{Config}
-use Rattle.rules.specs.Config.{Family, family, Good}
-use Rattle.rules.specs.Config.Family.{sequence, time, transition, value, stability, none}
-use Rattle.rules.specs.Frame.{Trace, up}
-use Rattle.rules.specs.Rules.{rowOf, marksOf, openOf, row, word, wordBefore}
-use Rattle.rules.specs.Step.{stepMarksOf, stepOpenOf, stepRow, stepWord, Steps}
-use Rattle.rules.specs.Possible.{possibleOf, possible, Left}
-use Rattle.rules.proofs.Good.{sequence-config, time-config, transition-widths, value-config, stability-config, not-none, p-within, q-within, r-within, possible-are}
-use Rattle.rules.proofs.SequenceRules.{sequence-open, sequence-marks}
-use Rattle.rules.proofs.SequenceWords.{sequence-possible, sequence-left}
-use Rattle.rules.proofs.TimeRules.{time-open, time-marks}
-use Rattle.rules.proofs.TimeWords.{time-possible, time-left}
-use Rattle.rules.proofs.TransitionRules.{transition-open, transition-marks}
-use Rattle.rules.proofs.TransitionWords.{transition-possible, transition-left}
-use Rattle.rules.proofs.TriggerRules.{value-open, value-marks, stability-open, stability-marks}
-use Rattle.rules.proofs.TriggerWords.{value-possible, value-left, stability-possible, stability-left}
+use Rattle.rules.specs.declared.frame.Frame.{Frame}
+use Rattle.rules.specs.Config.{fatal, Good}
+use Rattle.rules.specs.Frame.{Trace}
+use Rattle.rules.specs.Rules.{goingRow, goingWord, goingBefore, failing, stoppedBefore, stoppedWord, row, word, wordBefore}
+use Rattle.rules.specs.Step.{goingStepRow, goingStepWord, stepRow, stepWord, Steps}
+use Rattle.rules.specs.Possible.{goingPossible, canFail, possible, Left}
+use Rattle.rules.proofs.Going.{going-row, going-word, going-possible, going-left, going-low, going-before, fails-next, never-fails, same-before, followed, followed-before, followed-at, followed-proper}
 
 -- 1. The whiteboard table: `whiteboard` of `proofs/Cases.antt`.
 
--- the cycles left of a window fit below the reference
-few : (c : Config) → Good c → family (c .kind) ≡ stability → c .n < 2 ^ 16
-few c good e = omega (arith, stability-config c good e .high)
+-- ---- a step of a fatal checker, stopped or not
+
+pub steps-stopped : (c : Config) (f : Frame) → fatal c ≡ true → Steps c stoppedWord f 0 stoppedWord
+unfolding stepRow stepWord
+steps-stopped c f e = record { row-is = rw e refl; word-is = rw e refl }
+
+pub steps-going : (c : Config) (w : ℕ) (f : Frame) → w < stoppedWord
+    → Steps c w f (goingStepRow c w f) (cond (fatal c && failing (goingStepRow c w f)) stoppedWord (goingStepWord c w f))
+unfolding stepRow stepWord
+steps-going c w f l =
+    let e : eqb w stoppedWord ≡ false = ne-eqb w stoppedWord (λ q. omega arith) in
+    record { row-is = rw (e, and-false) refl; word-is = rw e refl }
+
+-- ---- the word before a cycle
+
+module _ (c : Config) (tr : Trace) where
+  pub before-going : (t : ℕ) → stoppedBefore c tr t ≡ false → wordBefore c tr t ≡ goingBefore c tr t
+  unfolding wordBefore goingBefore word
+  before-going zero e = refl
+  before-going (suc t) e = rw e refl
+
+  before-stopped : (t : ℕ) → stoppedBefore c tr t ≡ true → wordBefore c tr t ≡ stoppedWord
+  unfolding wordBefore word stoppedBefore some
+  before-stopped zero e = absurd (of-true (sym (and-false (fatal c)) ∙ e))
+  before-stopped (suc t) e = rw e refl
+
+  -- it has stopped before, or stops in cycle t
+  stopped-more : (t : ℕ) → stoppedBefore c tr (suc t) ≡ (stoppedBefore c tr t || (fatal c && failing (goingRow c tr t)))
+  unfolding stoppedBefore some
+  stopped-more t = by (fatal c)
+    where
+      by : (b : Bool)
+          → (b && (some t (λ s. failing (goingRow c tr s)) || failing (goingRow c tr t))) ≡ ((b && some t (λ s. failing (goingRow c tr s))) || (b && failing (goingRow c tr t)))
+      by true = refl
+      by false = refl
+
+pub before-low : (c : Config) → Good c → (tr : Trace) (t : ℕ) → goingBefore c tr t < stoppedWord
+before-low c good tr t = going-low c good (goingBefore c tr t) (going-before c good tr t)
 
 -- 2. For every good configuration, trace and cycle: the row and word that the rules give are those of one step from the rules' word of the cycle before,
 -- which is 0 before cycle 0.
-marks-step : (c : Config) → Good c → (tr : Trace) (t : ℕ) → up (tr t) ≡ true → (k : Family) → family (c .kind) ≡ k
-    → marksOf k c tr t ≡ stepMarksOf c (wordBefore c tr t) (tr t) k
-marks-step c good tr t here sequence e = sequence-marks c tr (sequence-config c good e .low) e t here
-marks-step c good tr t here time e = time-marks c tr e t here
-marks-step c good tr t here transition e = transition-marks c tr e t here
-marks-step c good tr t here value e = value-marks c tr e t
-marks-step c good tr t here stability e = stability-marks c tr e (few c good e) t
-marks-step c good tr t here none e = absurd (not-none c good e)
-
-open-step : (c : Config) → Good c → (tr : Trace) (t : ℕ) → up (tr t) ≡ true → (k : Family) → family (c .kind) ≡ k
-    → openOf k c tr t ≡ stepOpenOf c (wordBefore c tr t) (tr t) k
-open-step c good tr t here sequence e = sequence-open c tr (sequence-config c good e .low) e t here
-open-step c good tr t here time e = time-open c tr e t here
-open-step c good tr t here transition e = transition-open c tr e t here
-open-step c good tr t here value e = value-open c tr e t here
-open-step c good tr t here stability e = stability-open c tr e (few c good e) t here
-open-step c good tr t here none e = absurd (not-none c good e)
-
 pub step-is-rules : (c : Config) → Good c → (tr : Trace) (t : ℕ) → Steps c (wordBefore c tr t) (tr t) (row c tr t) (word c tr t)
-unfolding row word stepRow stepWord
-step-is-rules c good tr t = ⊎-elim running in-reset (either (up (tr t)))
+unfolding row word stoppedBefore
+step-is-rules c good tr t = ⊎-elim halted running (either (stoppedBefore c tr t))
   where
-    running : up (tr t) ≡ true → Steps c (wordBefore c tr t) (tr t) (row c tr t) (word c tr t)
-    running e =
-        record {
-          row-is = rw e (ap rowOf (marks-step c good tr t e (family (c .kind)) refl));
-          word-is = rw e (open-step c good tr t e (family (c .kind)) refl);
-        }
+    halted : stoppedBefore c tr t ≡ true → Steps c (wordBefore c tr t) (tr t) (row c tr t) (word c tr t)
+    halted e =
+        rw (before-stopped c tr t e, stopped-more c tr t, e)
+        (steps-stopped c (tr t) (is-true (fatal c) (and-left (fatal c) (some t (λ s. failing (goingRow c tr s))) (of-true e))))
 
-    in-reset : up (tr t) ≡ false → Steps c (wordBefore c tr t) (tr t) (row c tr t) (word c tr t)
-    in-reset e = record { row-is = rw e; word-is = rw e }
+    running : stoppedBefore c tr t ≡ false → Steps c (wordBefore c tr t) (tr t) (row c tr t) (word c tr t)
+    running e =
+        rw (before-going c tr t e, stopped-more c tr t, e, going-row c good tr t, going-word c good tr t)
+        (steps-going c (goingBefore c tr t) (tr t) (before-low c good tr t))
 
 -- 3. Every word that the rules give is possible.
 pub words-possible : (c : Config) → Good c → (tr : Trace) (t : ℕ) → T (possible c (word c tr t))
-words-possible c good tr t = by (family (c .kind)) refl
+unfolding word possible stoppedBefore
+words-possible c good tr t = ⊎-elim halted running (either (stoppedBefore c tr (suc t)))
   where
-    by : (k : Family) → family (c .kind) ≡ k → T (possible c (word c tr t))
-    by sequence e = rw (← possible-are c (word c tr t) sequence e) (sequence-possible c tr (sequence-config c good e .low) e t)
-    by time e = rw (← possible-are c (word c tr t) time e) (time-possible c tr e t)
-    by transition e = rw (← possible-are c (word c tr t) transition e) (transition-possible c tr e (transition-widths c good e) t)
-    by value e = rw (← possible-are c (word c tr t) value e) (value-possible c tr e t)
-    by stability e = rw (← possible-are c (word c tr t) stability e) (stability-possible c tr e (few c good e) t)
-    by none e = absurd (not-none c good e)
+    running : stoppedBefore c tr (suc t) ≡ false → T (possible c (word c tr t))
+    running e =
+        rw e (or-left (goingPossible c (goingWord c tr t)) (fatal c && canFail c && eqb (goingWord c tr t) stoppedWord) (going-possible c good tr t))
+
+    halted : stoppedBefore c tr (suc t) ≡ true → T (possible c (word c tr t))
+    halted e =
+        let fails : ℕ → Bool = λ s. failing (goingRow c tr s) in
+        let fatal-is = and-left (fatal c) (some (suc t) fails) (of-true e) in
+        let found = some-elim (suc t) fails (and-right (fatal c) (some (suc t) fails) (of-true e)) in
+        let can : canFail c ≡ true =
+        ⊎-elim (λ (y : canFail c ≡ true). y)
+        (λ (n : canFail c ≡ false).
+        absurd
+        (of-false (never-fails c good n (goingBefore c tr (found .at)) (tr (found .at)) (going-before c good tr (found .at)))
+        (rw (going-row c good tr (found .at)) at (found .holds))))
+        (either (canFail c)) in
+        rw (e, is-true (fatal c) fatal-is, can) (or-right (goingPossible c stoppedWord) true tt)
 
 -- Every possible word is left by some trace.
 pub possible-left : (c : Config) → Good c → (w : ℕ) → T (possible c w) → Left c w
-possible-left c good w h = by (family (c .kind)) refl
+unfolding possible word stoppedBefore goingBefore
+possible-left c good w h =
+    ⊎-elim passing
+    (λ (o : T (fatal c && canFail c && eqb w stoppedWord)).
+    let both = and-left (fatal c && canFail c) (eqb w stoppedWord) o in
+    let is = eqb→eq w stoppedWord (and-right (fatal c && canFail c) (eqb w stoppedWord) o) in
+    rw is (failed (is-true (fatal c) (and-left (fatal c) (canFail c) both)) (and-right (fatal c) (canFail c) both)))
+    (or-cases (goingPossible c w) (fatal c && canFail c && eqb w stoppedWord) h)
   where
-    asked : (k : Family) → family (c .kind) ≡ k → T (possibleOf k c w)
-    asked k e = rw (possible-are c w k e) h
+    -- one of a checker that goes on, by a trace in which nothing fails
+    passing : T (goingPossible c w) → Left c w
+    passing g =
+        let l = going-left c good w g in
+        let none = some-none (suc (l .cycle)) (λ s. failing (goingRow c (l .trace) s)) (λ s b. l .passes s (le-of-suc-le-suc b)) in
+        record { trace = l .trace; cycle = l .cycle; short = l .short; proper = l .proper; leaves = rw (none, and-false) (l .leaves) }
 
-    by : (k : Family) → family (c .kind) ≡ k → Left c w
-    by sequence e =
-        let s = sequence-config c good e in sequence-left c (s .low) (s .high) e (s .p-width) (p-within c good) w (asked sequence e)
-    by time e = let s = time-config c good e in time-left c e (s .p-width) (p-within c good) (s .high) w (asked time e)
-    by transition e = transition-left c e (transition-widths c good e) (r-within c good) w (asked transition e)
-    by value e = let s = value-config c good e in value-left c (q-within c good) (s .q-width) (s .high) e w (asked value e)
-    by stability e =
-        let s = stability-config c good e in stability-left c (q-within c good) (s .q-width) (s .high) e (p-within c good) w (asked stability e)
-    by none e = absurd (not-none c good e)
+    -- 2^63, by one more frame, on which it fails
+    failed : fatal c ≡ true → T (canFail c) → Left c stoppedWord
+    failed e can =
+        let n = fails-next c good can in
+        let d : ℕ = suc (n .left .cycle) in
+        let tr : Trace = followed (n .left .trace) d (n .frame) in
+        let before : goingBefore c tr d ≡ n .word = same-before c good tr (n .left .trace) d (followed-before (n .left .trace) d (n .frame)) ∙ n .left .leaves in
+        let fails : failing (goingRow c tr d) ≡ true = rw (going-row c good tr d, before, followed-at (n .left .trace) d (n .frame)) (n .fails) in
+        let stops = is-true (some (suc d) (λ s. failing (goingRow c tr s))) (some-intro (suc d) (λ s. failing (goingRow c tr s)) d (le-refl (suc d)) (of-true fails)) in
+        record {
+          trace = tr;
+          cycle = d;
+          short = n .room;
+          proper = followed-proper (n .left .trace) d (n .frame) (n .left .proper) (n .proper);
+          leaves = rw (e, stops) refl;
+        }
 
 -- A step from a word answers as the rules do after every trace that leaves it.
 pub step-after : (c : Config) → Good c → (w : ℕ) (tr : Trace) (t : ℕ) → word c tr t ≡ w

@@ -1,6 +1,7 @@
--- Frames of given words of 32 bits are proper, and one in reset leaves the word 0. Assumes nothing.
+-- Frames of given words of 32 bits are proper, and one in reset leaves the word 0 and does not fail. Assumes nothing.
 use Prim.Native.Nat.{ℕ, zero, suc, _^_, _<_}
-use mathlib.Core.Path.{refl}
+use mathlib.Core.Path.{_≡_, refl}
+use mathlib.Core.Bool.{true}
 use mathlib.Core.List.{[], _∷_}
 use lib.Dec.{lit<}
 use lib.ListN.{getD}
@@ -8,8 +9,10 @@ use Rattle.rules.specs.declared.frame.Frame.{Frame}
 use Rattle.rules.specs.declared.config.Config.{Config}
 use Rattle.bits.specs.Bits.{bit}
 use Rattle.rules.specs.Frame.{Proper, up}
-use Rattle.rules.specs.Rules.{word}
-use Rattle.rules.specs.Possible.{Left}
+use Rattle.rules.specs.Rules.{goingRow, goingWord, failing}
+use Rattle.rules.specs.Step.{goingStepRow}
+use Rattle.rules.specs.Possible.{LeftPassing}
+use Rattle.rules.proofs.Rows.{zero-passes}
 
 -- reset, P, Q, R
 abbrev pub frameOf : ℕ → ℕ → ℕ → ℕ → Frame
@@ -25,12 +28,23 @@ frame-proper n p q r hn hp hq hr = record { words = refl; small = small }
     small (suc (suc (suc zero))) = hr
     small (suc (suc (suc (suc i)))) = lit< tt
 
-pub zero-left : (c : Config) → Left c 0
-unfolding word up bit
+unfoldable pub zero-left : (c : Config) → LeftPassing c 0
+unfolding goingRow goingWord up bit
 zero-left c = record {
   trace = λ t. frameOf 0 0 0 0;
   cycle = 0;
   short = lit< tt;
+  early = λ l. lit< tt;
   proper = λ t. frame-proper 0 0 0 0 (lit< tt) (lit< tt) (lit< tt) (lit< tt);
   leaves = refl;
+  passes = λ t l. zero-passes;
 }
+
+-- a word that is left, and a frame on which the step from it fails
+pub record FailsNext (c : Config) : Type 0 where
+  pub word : ℕ
+  pub left : LeftPassing c word
+  pub room : suc (left .cycle) < 65536
+  pub frame : Frame
+  pub proper : Proper frame
+  pub fails : failing (goingStepRow c word frame) ≡ true

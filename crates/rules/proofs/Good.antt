@@ -1,18 +1,18 @@
 -- What a configuration that is not refused says of its kind, its n and its ports, family by family. Assumes nothing.
 use Prim.Native.Nat.{ℕ, _^_, _≤_, _<_}
-use mathlib.Core.Path.{_≡_, refl, sym, ap, subst}
+use mathlib.Core.Path.{_≡_, refl, sym, ap, subst, _∙_}
 use mathlib.Core.Bool.{Bool, true, false, _&&_, cond}
 use mathlib.Core.Logic.{_⊎_, inl, inr, ⊎-elim}
 use native.Mathlib.Nat.{eq-or-lt-of-le}
 use native.Mathlib.Omega.{arith}
-use borrow.Author.Tests.{le-leb, lt-leb, eq-eqb}
+use borrow.Author.Tests.{le-leb, lt-leb, leb-false, eq-eqb}
 use lib.Dec.{T, leb, ltb, leb→le, le→leb, ltb→lt, eqb, eqb→eq, lit≤}
 use lib.Pow.{pow-pos}
 use Rattle.bus.specs.Range.{width, within}
 use Rattle.bits.proofs.Tests.{of-true, iff-eq, and-left, and-right}
 use Rattle.rules.specs.declared.config.Config.{Config}
-use Rattle.rules.specs.Config.{Family, pick, family, minEvents, maxEvents, minWindow, maxWindow, limitsOf, unused, widthsOf, widths, minFits, valueFits, nFits, limits, ports, maxKind, configRefusal, Good}
-use Rattle.rules.specs.Possible.{possibleOf, possible}
+use Rattle.rules.specs.Config.{Family, pick, family, minEvents, maxEvents, minWindow, maxWindow, limitsOf, unused, widthsOf, widths, minFits, valueFits, nFits, severityFits, limits, ports, maxKind, configRefusal, Good}
+use Rattle.rules.specs.Possible.{possibleOf, goingPossible}
 use Rattle.rules.specs.Config.Family.{sequence, time, transition, value, stability, none}
 
 pub at-most-0 : (x : ℕ) → leb x 0 ≡ eqb x 0
@@ -64,8 +64,8 @@ pub widths-are : (c : Config) (k : Family) → family (c .kind) ≡ k → widths
 unfolding widths
 widths-are c k e = sym (ap (λ (j : Family). widthsOf j c) e)
 
-pub possible-are : (c : Config) (w : ℕ) (k : Family) → family (c .kind) ≡ k → possibleOf k c w ≡ possible c w
-unfolding possible
+pub possible-are : (c : Config) (w : ℕ) (k : Family) → family (c .kind) ≡ k → possibleOf k c w ≡ goingPossible c w
+unfolding goingPossible
 possible-are c w k e = sym (ap (λ (j : Family). possibleOf j c w) e)
 
 -- the refusal number from the three tests
@@ -93,7 +93,7 @@ tests true false d e = absurd (omega arith)
 tests false b d e = absurd (omega arith)
 
 module _ (c : Config) (good : Good c) where
-  three : T (leb (c .kind) maxKind) × T (limits c) × T (ports c)
+  pub three : T (leb (c .kind) maxKind) × T (limits c) × T (ports c)
   unfolding configRefusal
   three = tests (leb (c .kind) maxKind) (limits c) (ports c) good
 
@@ -126,9 +126,17 @@ module _ (c : Config) (good : Good c) where
       by true h = ltb→lt (c .value) (2 ^ width (c .p)) h
       by false h = let z = eqb→eq (c .value) 0 h in omega (arith, z, pow-pos (width (c .p)))
 
+  pub numbers : T (nFits c && minFits c)
+  unfolding limits
+  numbers = and-left (nFits c && minFits c) (severityFits c) (three .1)
+
+  pub severity-low : c .severity ≤ 1
+  unfolding limits severityFits
+  severity-low = leb→le (c .severity) 1 (and-right (nFits c && minFits c) (severityFits c) (three .1))
+
   limits-of : (k : Family) → family (c .kind) ≡ k → T (limitsOf k (c .n))
-  unfolding limits nFits
-  limits-of k e = subst (λ (j : Family). T (limitsOf j (c .n))) e (and-left (nFits c) (minFits c) (three .1))
+  unfolding nFits
+  limits-of k e = subst (λ (j : Family). T (limitsOf j (c .n))) e (and-left (nFits c) (minFits c) numbers)
 
   widths-of : (k : Family) → family (c .kind) ≡ k → T (widthsOf k c)
   unfolding widths
@@ -202,9 +210,9 @@ late-kind k h = by (leb k 2) (leb k 5) (leb k 6) (pick (leb k 7) value (pick (le
 
 trigger-config : (c : Config) → Good c → (k : Family) → family (c .kind) ≡ k → T (late k) → T (leb (c .n) maxWindow)
     → T (eqb (width (c .q)) 1 && unused (c .r)) → TriggerConfig c
-unfolding limits minFits
+unfolding minFits
 trigger-config c good k e o l v =
-    let m = and-right (nFits c) (minFits c) (three c good .1) in
+    let m = and-right (nFits c) (minFits c) (numbers c good) in
     record {
       low = leb→le (c .min) (c .n) (rw (late-kind (c .kind) (rw e o)) at m);
       high = leb→le (c .n) maxWindow l;
@@ -218,6 +226,13 @@ value-config c good e = trigger-config c good value e tt (limits-of c good value
 pub stability-config : (c : Config) → Good c → family (c .kind) ≡ stability → TriggerConfig c
 unfolding late limitsOf widthsOf
 stability-config c good e = trigger-config c good stability e tt (limits-of c good stability e) (widths-of c good stability e)
+
+pub stability-kind : (c : Config) → Good c → family (c .kind) ≡ stability → c .kind ≡ 8
+unfolding late
+stability-kind c good e =
+    let above = leb-false (c .kind) 6 (late-kind (c .kind) (rw e tt)) in
+    ⊎-elim (λ (q : c .kind ≡ 7). absurd (let v = sym (family-value (c .kind) q) ∙ e in let z : _≡_ {A = ℕ} 0 1 = cc in omega arith))
+    (λ (q : c .kind ≡ 8). q) (seven-or-eight (c .kind) above (omega (arith, kind-low c good)))
 
 pub not-none : (c : Config) → Good c → family (c .kind) ≡ none → ⊥
 unfolding limitsOf

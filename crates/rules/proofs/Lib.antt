@@ -2,6 +2,7 @@
 pub mod Cases
 pub mod Good
 pub mod Accepted
+pub mod Rows
 pub mod Frames
 pub mod Windows
 pub mod SequenceRules
@@ -12,5 +13,7 @@ pub mod TransitionRules
 pub mod TransitionWords
 pub mod TriggerRules
 pub mod TriggerWords
+pub mod Going
+pub mod Severity
 pub mod Claims
 pub mod Reached

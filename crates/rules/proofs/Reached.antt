@@ -4,24 +4,27 @@
 -- possible. Assumes nothing.
 use Prim.Native.Nat.{ℕ, zero, suc, _<_}
 use mathlib.Core.Path.{_≡_, refl, sym, ap₂, _∙_}
-use mathlib.Core.Bool.{cond}
+use mathlib.Core.Bool.{_&&_}
 use mathlib.Core.List.{[]}
 use native.Mathlib.Nat.{le-refl, le-step}
-use borrow.Author.Tests.{lt-ltb, le-ltb}
-use lib.Dec.{T, ltb}
-use Rattle.bits.specs.Bits.{bit}
+use native.Mathlib.Omega.{arith}
+use lib.Dec.{T, eqb}
+use Rattle.bits.proofs.Tests.{or-left}
 use Rattle.rules.specs.declared.config.Config.{Config}
 use Rattle.rules.specs.declared.frame.Frame.{Frame}
-use Rattle.rules.specs.Config.{Good}
-use Rattle.rules.specs.Frame.{Trace, up}
-use Rattle.rules.specs.Rules.{word, wordBefore}
-use Rattle.rules.specs.Step.{stepWord}
-use Rattle.rules.specs.Possible.{possible}
+use Rattle.rules.specs.Config.{fatal, Good}
+use Rattle.rules.specs.Frame.{Trace}
+use Rattle.rules.specs.Rules.{goingBefore, stoppedWord, word, wordBefore}
+use Rattle.rules.specs.Step.{stepWord, Steps}
+use Rattle.rules.specs.Possible.{goingPossible, canFail, possible}
+use Rattle.rules.proofs.Going.{going-before, going-low, followed, followed-before, followed-at}
+use Rattle.rules.proofs.Severity.{goes-possible}
 use Rattle.rules.proofs.Claims.{step-is-rules, step-after, words-possible, possible-left}
 
 pub zero-possible : (c : Config) → Good c → T (possible c 0)
-unfolding word up bit
-zero-possible c good = words-possible c good (λ _. record { samples = [] }) 0
+unfolding goingBefore possible
+zero-possible c good =
+    or-left (goingPossible c 0) (fatal c && canFail c && eqb 0 stoppedWord) (going-before c good (λ _. record { samples = [] }) 0)
 
 pub before-possible : (c : Config) → Good c → (tr : Trace) (t : ℕ) → T (possible c (wordBefore c tr t))
 unfolding wordBefore
@@ -36,17 +39,19 @@ same-before c good tr tr′ (suc t) h =
     step-is-rules c good tr t .word-is ∙ ap₂ (stepWord c) (same-before c good tr tr′ t (λ s l. h s (le-step l))) (h t (le-refl (suc t)))
     ∙ sym (step-is-rules c good tr′ t .word-is)
 
--- the frames of tr before cycle t, and f from then on
-followed : Trace → ℕ → Frame → Trace
-followed tr t f s = cond (ltb s t) (tr s) f
-
 pub step-possible : (c : Config) → Good c → (w : ℕ) (f : Frame) → T (possible c w) → T (possible c (stepWord c w f))
-unfolding wordBefore followed
+unfolding wordBefore
 step-possible c good w f h =
     let l = possible-left c good w h in
     let n : ℕ = suc (l .cycle) in
     let tr : Trace = followed (l .trace) n f in
-    let left : word c tr (l .cycle) ≡ w = same-before c good tr (l .trace) n (λ s b. rw (lt-ltb s n b)) ∙ l .leaves in
-    let here : tr n ≡ f = rw (le-ltb n n (le-refl n)) in
-    let leaves : word c tr n ≡ stepWord c w f = step-after c good w tr (l .cycle) left .word-is ∙ rw here in
+    let left : word c tr (l .cycle) ≡ w = same-before c good tr (l .trace) n (followed-before (l .trace) n f) ∙ l .leaves in
+    let leaves : word c tr n ≡ stepWord c w f = step-after c good w tr (l .cycle) left .word-is ∙ rw (followed-at (l .trace) n f) in
     rw leaves at (words-possible c good tr n)
+
+-- a step of a checker that goes on does not leave 2^63
+pub step-open : (c : Config) → c .severity ≡ 0 → Good c → (w : ℕ) → T (possible c w) → (f : Frame) (row next : ℕ) → Steps c w f row next
+    → next ≡ stoppedWord → ⊥
+step-open c on good w h f row next s e =
+    let left = goes-possible c on (stepWord c w f) (step-possible c good w f h) in
+    omega (arith, going-low c good (stepWord c w f) left, s .word-is, e)

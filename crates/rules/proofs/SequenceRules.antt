@@ -21,7 +21,7 @@ use Rattle.rules.specs.Config.Family.{sequence}
 use Rattle.rules.specs.Frame.{Trace, up, P}
 use Rattle.rules.specs.Checks.{Checks, accepted, busy, fails}
 use Rattle.rules.specs.Sequence.{event, alive, attemptTested, sequenceChecks, mostSeen, attempts}
-use Rattle.rules.specs.Rules.{marksOf, openOf, word, wordBefore}
+use Rattle.rules.specs.Rules.{marksOf, openOf, goingWord, goingBefore}
 use Rattle.rules.specs.Step.{startsAttempt, attempt, attemptFails, stepMarksOf, stepOpenOf}
 use Rattle.rules.proofs.Accepted.{accepted-law, fails-earlier}
 
@@ -130,17 +130,17 @@ module _ (c : Config) (tr : Trace) where
   unfolding attempts running
   attempts-running t = ap (number (c .n - 1)) (fun-ext λ j. rw (leb·suc-suc, suc-sub-suc))
 
-  before-running : family (c .kind) ≡ sequence → (t : ℕ) → wordBefore c tr t ≡ runs t
-  unfolding wordBefore word openOf running
+  before-running : family (c .kind) ≡ sequence → (t : ℕ) → goingBefore c tr t ≡ runs t
+  unfolding goingBefore goingWord openOf running
   before-running f zero = sym (number-none (c .n - 1) (running 0) (λ j l. rw (running, leb·suc-zero)))
   before-running f (suc t) =
-      ⊎-elim (λ (e : up (tr t) ≡ true). rw (word, e, f) (attempts-running t))
-      (λ (e : up (tr t) ≡ false). rw (word, e) (sym (number-none (c .n - 1) (running (suc t)) (λ j l. running-down t e j))))
+      ⊎-elim (λ (e : up (tr t) ≡ true). rw (goingWord, e, f) (attempts-running t))
+      (λ (e : up (tr t) ≡ false). rw (goingWord, e) (sym (number-none (c .n - 1) (running (suc t)) (λ j l. running-down t e j))))
       (either (up (tr t)))
 
   -- an accepted attempt from s is tested in t when the word before t has the bit of its age, and no bit is older than the trace
   pub pending-bit : family (c .kind) ≡ sequence → (t s : ℕ) → s < t
-      → (accepted checks s && checks .pending s t) ≡ (ltb (t - s) (c .n) && bit (wordBefore c tr t) (t - suc s))
+      → (accepted checks s && checks .pending s t) ≡ (ltb (t - s) (c .n) && bit (goingBefore c tr t) (t - suc s))
   unfolding sequenceChecks attemptTested
   pending-bit f t s l =
       ⊎-elim
@@ -151,7 +151,7 @@ module _ (c : Config) (tr : Trace) where
       (λ (y : ltb (t - s) (c .n) ≡ false). rw y (and-false (accepted checks s)))
       (either (ltb (t - s) (c .n)))
 
-  pub bit-young : family (c .kind) ≡ sequence → (t j : ℕ) → T (bit (wordBefore c tr t) j) → j < t
+  pub bit-young : family (c .kind) ≡ sequence → (t j : ℕ) → T (bit (goingBefore c tr t) j) → j < t
   bit-young f t j h = young t j (bit-holds (c .n - 1) (running t) j (rw (before-running f t) at h))
 
   -- an accepted attempt has its first event, so it is not violated where it starts
@@ -217,12 +217,12 @@ module _ (c : Config) (tr : Trace) where
               (either (eqb (suc t) (s + (c .n - 1))))
 
 module _ (c : Config) (tr : Trace) (two : 2 ≤ c .n) (f : family (c .kind) ≡ sequence) (t : ℕ) (here : up (tr t) ≡ true) where
-  pub sequence-open : openOf sequence c tr t ≡ stepOpenOf c (wordBefore c tr t) (tr t) sequence
+  pub sequence-open : openOf sequence c tr t ≡ stepOpenOf c (goingBefore c tr t) (tr t) sequence
   unfolding openOf stepOpenOf
   sequence-open =
       rw (before-running c tr f)
       (attempts-running c tr t ∙ number-ext (c .n - 1) (running c tr (suc t)) (attempt c (runs c tr t) (tr t)) (running-attempt c tr t here))
 
-  pub sequence-marks : marksOf sequence c tr t ≡ stepMarksOf c (wordBefore c tr t) (tr t) sequence
+  pub sequence-marks : marksOf sequence c tr t ≡ stepMarksOf c (goingBefore c tr t) (tr t) sequence
   unfolding marksOf stepMarksOf
   sequence-marks = rw (before-running c tr f, failure c tr t here two, opened c tr t here two, accepted-starts c tr t here)

@@ -3,33 +3,34 @@
 -- Every word that is left is possible: it is made of n−1 bits, and of kind 2 a step starts an attempt only from the word 0 and otherwise only moves
 -- bits up, so a word of at most one set bit is followed by another. Every possible word w is left: in n−1 cycles with every later event 1, the first
 -- event of cycle u is bit n−2−u of w, so that the word shifts w in from its top bit down. Assumes nothing.
-use Prim.Native.Nat.{ℕ, zero, suc, _+_, _-_, _/_, _^_, _<_, _≤_, zero-le}
+use Prim.Native.Nat.{ℕ, zero, suc, _+_, _-_, _*_, _/_, _^_, _<_, _≤_, zero-le}
 use mathlib.Core.Path.{_≡_, refl, sym, ap, _∙_}
 use mathlib.Core.Bool.{Bool, true, false, not, _&&_, _||_, and-true, and-false}
 use mathlib.Core.Logic.{⊎-elim}
 use native.Mathlib.Nat.{le-refl, lt-of-le-of-lt, add-zero, div-one, div-eq-of-lt}
 use native.Mathlib.Numerals.{one-add}
 use native.Mathlib.Omega.{arith}
-use lib.Count.{ones, ones-step}
+use lib.Count.{ones, ones-step, ones-cat}
 use lib.Dec.{T, leb, ltb, eqb, lit<, lt→ltb, ltb→lt, le→leb, leb→le}
-use lib.Pow.{pow-pos, shr-le}
-use borrow.Author.Tests.{lt-ltb, le-ltb, eqb-true}
-use Rattle.bits.specs.Bits.{toBit, bit, number}
+use lib.Pow.{pow-pos, pow-lt, shr-le}
+use borrow.Author.Tests.{lt-ltb, le-ltb, le-leb, eqb-true}
+use Rattle.bits.specs.Bits.{toBit, bit, some, number}
 use Rattle.bus.specs.Range.{width, within}
-use Rattle.bits.proofs.Tests.{either, of-true, and-left, and-right, and-intro, or-right}
-use Rattle.bits.proofs.Bits.{number-lt, number-is, bit-number, bit-holds, bit-shr, bit-digit}
+use Rattle.bits.proofs.Tests.{either, is-true, of-true, and-left, and-right, and-intro, or-right, some-none, some-intro}
+use Rattle.bits.proofs.Bits.{number-lt, number-is, bit-number, bit-holds, bit-past, bit-shr, bit-top, bit-digit}
 use Rattle.bits.proofs.Ones.{ones-mono, ones-one}
-use Rattle.bus.proofs.Wires.{wiresFor, value-wires, wires-small}
+use Rattle.bus.proofs.Wires.{wiresFor, value-wires, value-zero, wires-small}
 use Rattle.rules.specs.declared.config.Config.{Config}
 use Rattle.rules.specs.declared.frame.Frame.{Frame}
 use Rattle.rules.specs.Config.{family}
 use Rattle.rules.specs.Config.Family.{sequence}
 use Rattle.rules.specs.Frame.{Trace, up, P}
-use Rattle.rules.specs.Rules.{word, wordBefore}
-use Rattle.rules.specs.Step.{startsAttempt, attempt, stepOpenOf}
-use Rattle.rules.specs.Possible.{possibleOf, Left}
-use Rattle.rules.proofs.Frames.{frameOf, frame-proper}
-use Rattle.rules.proofs.SequenceRules.{sequence-open}
+use Rattle.rules.specs.Rules.{Marks, goingWord, goingBefore, failing, goingRow}
+use Rattle.rules.specs.Step.{startsAttempt, attempt, attemptFails, stepMarksOf, stepOpenOf}
+use Rattle.rules.specs.Possible.{possibleOf, LeftPassing}
+use Rattle.rules.proofs.Frames.{frameOf, frame-proper, FailsNext}
+use Rattle.rules.proofs.Rows.{row-passes, step-fails}
+use Rattle.rules.proofs.SequenceRules.{sequence-open, sequence-marks}
 
 -- ---- what the test says
 
@@ -77,20 +78,20 @@ module _ (c : Config) (two : 2 ≤ c .n) where
           and-left (bit w i) (bit (P c f) (c .n - 1 - suc i)) (bit-holds (c .n - 1) (attempt c w f) (suc i) (rw (bit-shr next 1 i, one-add) at t)))
 
   module _ (tr : Trace) (f : family (c .kind) ≡ sequence) where
-    before-possible : (t : ℕ) → T (possibleOf sequence c (wordBefore c tr t))
-    unfolding wordBefore word stepOpenOf
+    before-possible : (t : ℕ) → T (possibleOf sequence c (goingBefore c tr t))
+    unfolding goingBefore goingWord stepOpenOf
     before-possible zero = possible-zero c
     before-possible (suc t) =
-        let next : ℕ → Bool = attempt c (wordBefore c tr t) (tr t) in
+        let next : ℕ → Bool = attempt c (goingBefore c tr t) (tr t) in
         ⊎-elim
         (λ (e : up (tr t) ≡ true).
-        rw (word, e, f, sequence-open c tr two f t e)
+        rw (goingWord, e, f, sequence-open c tr two f t e)
         (possible-intro c (number (c .n - 1) next) (number-lt (c .n - 1) next)
-        (λ k. step-one (wordBefore c tr t) (tr t) k (possible-one c (wordBefore c tr t) (before-possible t) k))))
-        (λ (e : up (tr t) ≡ false). rw (word, e) (possible-zero c)) (either (up (tr t)))
+        (λ k. step-one (goingBefore c tr t) (tr t) k (possible-one c (goingBefore c tr t) (before-possible t) k))))
+        (λ (e : up (tr t) ≡ false). rw (goingWord, e) (possible-zero c)) (either (up (tr t)))
 
-pub sequence-possible : (c : Config) (tr : Trace) → 2 ≤ c .n → family (c .kind) ≡ sequence → (t : ℕ) → T (possibleOf sequence c (word c tr t))
-unfolding wordBefore
+pub sequence-possible : (c : Config) (tr : Trace) → 2 ≤ c .n → family (c .kind) ≡ sequence → (t : ℕ) → T (possibleOf sequence c (goingWord c tr t))
+unfolding goingBefore
 sequence-possible c tr two f t = before-possible c two tr f (suc t)
 
 -- ---- every possible word is left
@@ -130,24 +131,94 @@ module _ (c : Config) (two : 2 ≤ c .n) (f : family (c .kind) ≡ sequence) (wi
       let j : ℕ = c .n - 1 - suc i in
       rw (bit-shr w k (suc i), bit-shr w (suc k) i, events u j (omega arith), wanted, lt-ltb j (c .n - 1) (omega arith), and-true, place)
 
-  before-leaving : (u k : ℕ) → u + k ≡ c .n - 1 → wordBefore c (leaving c w) u ≡ w / 2 ^ k
-  unfolding wordBefore word stepOpenOf up bit leaving
+  before-leaving : (u k : ℕ) → u + k ≡ c .n - 1 → goingBefore c (leaving c w) u ≡ w / 2 ^ k
+  unfolding goingBefore goingWord stepOpenOf up bit leaving
   before-leaving zero k e =
       let all : k ≡ c .n - 1 = omega arith in
       rw all (sym (div-eq-of-lt (possible-lt c w h)))
   before-leaving (suc u) k e =
-      rw (word, f, sequence-open c (leaving c w) two f u refl, before-leaving u (suc k) (omega arith))
+      rw (goingWord, f, sequence-open c (leaving c w) two f u refl, before-leaving u (suc k) (omega arith))
       (sym
       (number-is (c .n - 1) (w / 2 ^ k) (attempt c (w / 2 ^ suc k) (leaving c w u)) (lt-of-le-of-lt (shr-le w k) (possible-lt c w h)) (shifts u k e)))
 
+  -- every attempt has its event
+  held : (u i : ℕ) → i < c .n - 1 → bit (P c (leaving c w u)) i ≡ true
+  unfolding wanted
+  held u i l = events u i (omega arith) ∙ rw (wanted, lt-ltb i (c .n - 1) l) refl
+
+  none-fails : (v u : ℕ) → attemptFails c v (leaving c w u) ≡ false
+  unfolding attemptFails
+  none-fails v u =
+      ⊎-elim (λ (e : eqb (c .kind) 0 ≡ true). rw (e, held u 0 (omega arith)) (and-false (bit v (c .n - 2))))
+      (λ (e : eqb (c .kind) 0 ≡ false).
+      rw e
+      (some-none (c .n - 1) (λ j. bit v j && not (bit (P c (leaving c w u)) (c .n - 1 - suc j)))
+      (λ j l. rw (held u (c .n - 1 - suc j) (omega arith)) (and-false (bit v j)))))
+      (either (eqb (c .kind) 0))
+
+  passing : (u : ℕ) → failing (goingRow c (leaving c w) u) ≡ false
+  unfolding stepMarksOf up bit leaving
+  passing u =
+      let marks = sequence-marks c (leaving c w) two f u refl in
+      row-passes c (leaving c w) u sequence f (ap (λ (m : Marks). m .failure) marks ∙ none-fails (goingBefore c (leaving c w) u) u)
+      (ap (λ (m : Marks). m .illegal) marks)
+
 pub sequence-left : (c : Config) → 2 ≤ c .n → c .n ≤ 32 → family (c .kind) ≡ sequence → width (c .p) ≡ c .n → T (within (c .p))
-    → (w : ℕ) → T (possibleOf sequence c w) → Left c w
-unfolding wordBefore leaving
+    → (w : ℕ) → T (possibleOf sequence c w) → LeftPassing c w
+unfolding goingBefore leaving
 sequence-left c two small f wide ok w h = record {
   trace = leaving c w;
   cycle = c .n - 2;
   short = omega arith;
+  early = λ l. omega arith;
   proper = λ u.
       frame-proper 1 (wiresFor (c .p) (number (c .n) (wanted c w u))) 0 0 (lit< tt) (wires-small (c .p) (number (c .n) (wanted c w u))) (lit< tt) (lit< tt);
   leaves = before-leaving c two f wide ok w h (suc (c .n - 2)) 0 (omega arith) ∙ div-one w;
+  passes = λ u l. passing c two f wide ok w h u;
 }
+
+-- the oldest attempt there can be misses the last event
+pub sequence-fails : (c : Config) → 2 ≤ c .n → c .n ≤ 32 → family (c .kind) ≡ sequence → width (c .p) ≡ c .n → T (within (c .p)) → FailsNext c
+unfolding stepMarksOf attemptFails up bit ones
+sequence-fails c two small f wide ok = record {
+  word = oldest;
+  left = left;
+  room = left .early (pow-pos (c .n - 2));
+  frame = frameOf 1 0 0 0;
+  proper = frame-proper 1 0 0 0 (lit< tt) (lit< tt) (lit< tt) (lit< tt);
+  fails = step-fails c oldest (frameOf 1 0 0 0) sequence f refl misses;
+}
+  where
+    oldest : ℕ
+    oldest = 2 ^ (c .n - 2)
+
+    low : oldest < 2 ^ (c .n - 1)
+    low = pow-lt (omega arith)
+
+    single : ones oldest ≤ 1
+    single =
+        let whole : oldest ≡ 1 * oldest + 0 = omega arith in
+        let e : ones oldest ≡ 1 = ap ones whole ∙ ones-cat (c .n - 2) 1 0 (pow-pos (c .n - 2)) in
+        omega (arith, e)
+
+    may-be : T (possibleOf sequence c oldest)
+    may-be = possible-intro c oldest low (λ e. single)
+
+    set : bit oldest (c .n - 2) ≡ true
+    set = bit-top oldest (c .n - 2) (pow-lt (le-refl (suc (c .n - 2)))) ∙ le-leb oldest oldest (le-refl oldest)
+
+    none : (i : ℕ) → bit (P c (frameOf 1 0 0 0)) i ≡ false
+    none i = ap (λ (v : ℕ). bit v i) (value-zero (c .p)) ∙ bit-past 0 0 i (lit< tt) zero-le
+
+    left : LeftPassing c oldest
+    left = sequence-left c two small f wide ok oldest may-be
+
+    misses : attemptFails c oldest (frameOf 1 0 0 0) ≡ true
+    misses =
+        ⊎-elim (λ (e : eqb (c .kind) 0 ≡ true). rw (e, set, none 0) refl)
+        (λ (e : eqb (c .kind) 0 ≡ false).
+        rw e
+        (is-true (some (c .n - 1) (λ j. bit oldest j && not (bit (P c (frameOf 1 0 0 0)) (c .n - 1 - suc j))))
+        (some-intro (c .n - 1) (λ j. bit oldest j && not (bit (P c (frameOf 1 0 0 0)) (c .n - 1 - suc j))) (c .n - 2) (omega arith)
+        (rw (set, none (c .n - 1 - suc (c .n - 2))) tt))))
+        (either (eqb (c .kind) 0))

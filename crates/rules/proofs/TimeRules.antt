@@ -15,7 +15,7 @@ use Rattle.rules.specs.Config.Family.{time}
 use Rattle.rules.specs.Frame.{Trace, up, P, Q}
 use Rattle.rules.specs.Checks.{Checks, accepted, busy, fails}
 use Rattle.rules.specs.Time.{windowPending, startSeen, testSeen, restarts, timeChecks, windowOpened, windowReset, illegalStart, windowClosed, cyclesLeft}
-use Rattle.rules.specs.Rules.{marksOf, openOf, word, wordBefore}
+use Rattle.rules.specs.Rules.{marksOf, openOf, goingWord, goingBefore}
 use Rattle.rules.specs.Step.{start, pends, restart, left, stepMarksOf, stepOpenOf}
 use Rattle.rules.proofs.Accepted.{accepted-law, fails-earlier}
 use Rattle.rules.proofs.Windows.{Windowed, in-reset, some-and, some-under, live, count, live-count, busy-count, live-is, young, low, count-read}
@@ -124,26 +124,26 @@ module _ (c : Config) (tr : Trace) where
     unfolding cyclesLeft
     left-read = count-read checks tr (c .n) windowed
 
-    word-left : (t : ℕ) → wordBefore c tr t ≡ left-before t
-    unfolding wordBefore word openOf count
+    word-left : (t : ℕ) → goingBefore c tr t ≡ left-before t
+    unfolding goingBefore goingWord openOf count
     word-left zero = refl
     word-left (suc t) = rw (k, left-read t) (in-reset (up (tr t)) (cond (accepted checks t) (c .n) (left-before t - 1)))
 
     -- the accepted check that is pending in t is the one whose start the word gives, and no word is older than the trace
-    pub pending-count : (t s : ℕ) → (accepted checks s && checks .pending s t) ≡ (eqb (suc (s + c .n)) (wordBefore c tr t + t) && ltb 0 (wordBefore c tr t))
+    pub pending-count : (t s : ℕ) → (accepted checks s && checks .pending s t) ≡ (eqb (suc (s + c .n)) (goingBefore c tr t + t) && ltb 0 (goingBefore c tr t))
     pending-count t s = rw (word-left t) (live-is checks tr (c .n) windowed t s)
 
-    pub count-young : (t : ℕ) → 0 < wordBefore c tr t → c .n < wordBefore c tr t + t
+    pub count-young : (t : ℕ) → 0 < goingBefore c tr t → c .n < goingBefore c tr t + t
     count-young t = rw (word-left t) (young checks tr (c .n) windowed t)
 
-    pub count-low : (t : ℕ) → wordBefore c tr t ≤ c .n
+    pub count-low : (t : ℕ) → goingBefore c tr t ≤ c .n
     count-low t = rw (word-left t) (low checks tr (c .n) windowed t)
 
-    pub time-open : (t : ℕ) → up (tr t) ≡ true → openOf time c tr t ≡ stepOpenOf c (wordBefore c tr t) (tr t) time
+    pub time-open : (t : ℕ) → up (tr t) ≡ true → openOf time c tr t ≡ stepOpenOf c (goingBefore c tr t) (tr t) time
     unfolding openOf stepOpenOf count left start pends startSeen
     time-open t u = left-read t ∙ rw (word-left t, u, start-accepted t, u, busy-pends t) refl
 
-    pub time-marks : (t : ℕ) → up (tr t) ≡ true → marksOf time c tr t ≡ stepMarksOf c (wordBefore c tr t) (tr t) time
+    pub time-marks : (t : ℕ) → up (tr t) ≡ true → marksOf time c tr t ≡ stepMarksOf c (goingBefore c tr t) (tr t) time
     unfolding marksOf stepMarksOf startSeen start pends restart restarts illegalStart windowOpened windowReset
     time-marks t u = rw (word-left t) λ i. record {
       failure = failure-law t u i;

@@ -14,7 +14,7 @@ use Rattle.rules.specs.Config.Family.{transition}
 use Rattle.rules.specs.Frame.{Trace, up, P, Q, R}
 use Rattle.rules.specs.Checks.{Checks, accepted, fails}
 use Rattle.rules.specs.Transition.{transitionChecks, stored}
-use Rattle.rules.specs.Rules.{checkMarks, marksOf, openOf, word, wordBefore}
+use Rattle.rules.specs.Rules.{checkMarks, marksOf, openOf, goingWord, goingBefore}
 use Rattle.rules.specs.Step.{pends, stepMarksOf, stepOpenOf}
 use Rattle.rules.proofs.Accepted.{accepted-law, fails-earlier}
 
@@ -43,12 +43,12 @@ module _ (c : Config) (tr : Trace) where
 
   module _ (k : family (c .kind) ≡ transition) where
     -- in reset no start is accepted, so the open word is what is stored there too
-    pub word-stored : (t : ℕ) → word c tr t ≡ stored c tr t
-    unfolding word openOf stored
+    pub word-stored : (t : ℕ) → goingWord c tr t ≡ stored c tr t
+    unfolding goingWord openOf stored
     word-stored t = rw (k, start-accepted t) (in-reset (up (tr t)) (eqb (P c (tr t)) (Q c (tr t))) (2 ^ 32 + R c (tr t)))
 
-    failure-law : (t : ℕ) → up (tr t) ≡ true → fails checks t ≡ (ltb 0 (wordBefore c tr t) && not (eqb (P c (tr t)) (wordBefore c tr t - 2 ^ 32)))
-    unfolding some wordBefore transitionChecks stored
+    failure-law : (t : ℕ) → up (tr t) ≡ true → fails checks t ≡ (ltb 0 (goingBefore c tr t) && not (eqb (P c (tr t)) (goingBefore c tr t - 2 ^ 32)))
+    unfolding some goingBefore transitionChecks stored
     failure-law zero u = fails-earlier checks 0 (rw u (and-false (accepted checks 0)))
     failure-law (suc s) u =
         fails-earlier checks (suc s) (rw (u, ne-eqb (suc s) (suc (suc s)) (omega arith)) (and-false (accepted checks (suc s))))
@@ -60,10 +60,10 @@ module _ (c : Config) (tr : Trace) where
         older : some s failed ≡ false
         older = some-none s failed (λ i l. rw (u, ne-eqb (suc s) (suc i) (omega arith)) (and-false (accepted checks i)))
 
-    pub transition-open : (t : ℕ) → up (tr t) ≡ true → openOf transition c tr t ≡ stepOpenOf c (wordBefore c tr t) (tr t) transition
+    pub transition-open : (t : ℕ) → up (tr t) ≡ true → openOf transition c tr t ≡ stepOpenOf c (goingBefore c tr t) (tr t) transition
     unfolding openOf stored stepOpenOf
     transition-open t u = rw (started t u) refl
 
-    pub transition-marks : (t : ℕ) → up (tr t) ≡ true → marksOf transition c tr t ≡ stepMarksOf c (wordBefore c tr t) (tr t) transition
+    pub transition-marks : (t : ℕ) → up (tr t) ≡ true → marksOf transition c tr t ≡ stepMarksOf c (goingBefore c tr t) (tr t) transition
     unfolding marksOf stepMarksOf pends
     transition-marks t u i = checkMarks (failure-law t u i) (started t u i)

@@ -16,7 +16,7 @@ use Rattle.rules.specs.Frame.{Trace, up, enabled, P}
 use Rattle.rules.specs.Checks.{Checks, accepted, busy, fails}
 use Rattle.rules.specs.Window.{atFirst}
 use Rattle.rules.specs.Trigger.{withReference, triggerSeen, triggerPending, inWindow, tested, triggerChecks, valueChecks, hasReference, reference, stabilityChecks, windowEnds, leftWith, valueLeft, stabilityLeft}
-use Rattle.rules.specs.Rules.{windowMarks, marksOf, openOf, word, wordBefore}
+use Rattle.rules.specs.Rules.{windowMarks, marksOf, openOf, goingWord, goingBefore}
 use Rattle.rules.specs.Step.{leftIn, holds, referenceIn, pends, triggered, opens, after, tests, trackedMarks, held, stepMarksOf, stepOpenOf}
 use Rattle.rules.proofs.Accepted.{accepted-law}
 use Rattle.rules.proofs.Windows.{Windowed, in-reset, under, some-and, some-under, live, count, live-range, live-count, live-before, live-is, young, busy-count, read}
@@ -249,30 +249,30 @@ module _ (c : Config) (tr : Trace) (k : family (c .kind) ≡ value) where
       read (triggerChecks c tr forbidden) tr (c .n) (windowed c tr forbidden) (suc t) (λ s. s + c .n - t + 0) (value-before (suc t))
       (λ s p. omega (arith, live-count (triggerChecks c tr forbidden) tr (c .n) (windowed c tr forbidden) (suc t) s p)) (λ l. l)
 
-  pub value-word : (t : ℕ) → wordBefore c tr t ≡ value-before t
-  unfolding wordBefore word openOf count
+  pub value-word : (t : ℕ) → goingBefore c tr t ≡ value-before t
+  unfolding goingBefore goingWord openOf count
   value-word zero = refl
   value-word (suc t) =
       rw (k, value-read t) (in-reset (up (tr t)) (cond (accepted (triggerChecks c tr forbidden) t) (c .n) (value-before t - 1)))
 
-  pub value-open : (t : ℕ) → up (tr t) ≡ true → openOf value c tr t ≡ stepOpenOf c (wordBefore c tr t) (tr t) value
+  pub value-open : (t : ℕ) → up (tr t) ≡ true → openOf value c tr t ≡ stepOpenOf c (goingBefore c tr t) (tr t) value
   unfolding openOf stepOpenOf
   value-open t u =
       rw (value-word t) (value-read t ∙ left-next c tr forbidden t u ∙ after-step c tr forbidden t (value-before t) refl)
 
-  pub value-marks : (t : ℕ) → marksOf value c tr t ≡ stepMarksOf c (wordBefore c tr t) (tr t) value
+  pub value-marks : (t : ℕ) → marksOf value c tr t ≡ stepMarksOf c (goingBefore c tr t) (tr t) value
   unfolding marksOf stepMarksOf valueChecks
   value-marks t =
       rw (value-word t) (marks-step c tr forbidden t (value-before t) refl (not (eqb (P c (tr t)) (c .value))) (λ s h. refl))
 
   -- for the failure list: the check that is violated in t is the one whose start the word gives, and no word is older than the trace
   pub value-violated : (t s : ℕ) → (accepted (valueChecks c tr) s && valueChecks c tr .violated s t)
-      ≡ (cond (eqb (wordBefore c tr t) 0) (eqb s t) (eqb (suc (s + c .n)) (wordBefore c tr t + t)) && stepMarksOf c (wordBefore c tr t) (tr t) value .failure)
+      ≡ (cond (eqb (goingBefore c tr t) 0) (eqb s t) (eqb (suc (s + c .n)) (goingBefore c tr t + t)) && stepMarksOf c (goingBefore c tr t) (tr t) value .failure)
   unfolding stepMarksOf valueChecks
   value-violated t s =
       rw (value-word t) (violated-step c tr forbidden t (value-before t) refl (not (eqb (P c (tr t)) (c .value))) (λ i h. refl) s)
 
-  pub value-young : (t : ℕ) → 0 < wordBefore c tr t → c .n < wordBefore c tr t + t
+  pub value-young : (t : ℕ) → 0 < goingBefore c tr t → c .n < goingBefore c tr t + t
   value-young t = rw (value-word t) (young (triggerChecks c tr forbidden) tr (c .n) (windowed c tr forbidden) t)
 
 -- ---- kind 8
@@ -317,8 +317,8 @@ module _ (c : Config) (tr : Trace) (k : family (c .kind) ≡ stability) (high : 
   unfolding stabilityLeft leftWith stabilityChecks triggerChecks
   stability-read t v = read stable tr (c .n) stable-windows (suc t) (λ s. s + c .n - t + kept s (suc t)) v
 
-  pub word-pending : (t s : ℕ) → T (alive c tr unstable t s) → wordBefore c tr t ≡ stable-before t + kept s t
-  unfolding wordBefore word openOf count
+  pub word-pending : (t s : ℕ) → T (alive c tr unstable t s) → goingBefore c tr t ≡ stable-before t + kept s t
+  unfolding goingBefore goingWord openOf count
   word-pending zero s p = absurd (not-suc-le-zero (live-range stable tr (c .n) stable-windows 0 s p .0))
   word-pending (suc t) s p = by (up (tr t)) refl
     where
@@ -335,8 +335,8 @@ module _ (c : Config) (tr : Trace) (k : family (c .kind) ≡ stability) (high : 
           (λ i q. let e : i ≡ s = omega (arith, at s p, at i q) in rw e (ap (λ (n : ℕ). n + kept s (suc t)) (omega (arith, at s p)))) (λ _. some-left))
       by false u = absurd (not-suc-le-zero (rw (count, u) at some-left))
 
-  pub word-none : (t : ℕ) → stable-before t ≡ 0 → wordBefore c tr t ≡ 0
-  unfolding wordBefore word openOf
+  pub word-none : (t : ℕ) → stable-before t ≡ 0 → goingBefore c tr t ≡ 0
+  unfolding goingBefore goingWord openOf
   word-none zero e = refl
   word-none (suc t) e = by (up (tr t))
     where
@@ -351,10 +351,10 @@ module _ (c : Config) (tr : Trace) (k : family (c .kind) ≡ stability) (high : 
 
   -- what the word says of a window that t is in
   record Parts (t s : ℕ) : Type 0 where
-    left-is : leftIn (wordBefore c tr t) ≡ stable-before t
-    holds-is : holds (wordBefore c tr t) ≡ hasReference c tr s t
-    reference-is : hasReference c tr s t ≡ true → referenceIn (wordBefore c tr t) ≡ reference c tr s t
-    none-is : ltb 0 (wordBefore c tr t) ≡ ltb 0 (stable-before t)
+    left-is : leftIn (goingBefore c tr t) ≡ stable-before t
+    holds-is : holds (goingBefore c tr t) ≡ hasReference c tr s t
+    reference-is : hasReference c tr s t ≡ true → referenceIn (goingBefore c tr t) ≡ reference c tr s t
+    none-is : ltb 0 (goingBefore c tr t) ≡ ltb 0 (stable-before t)
 
   pending-parts : (t s : ℕ) → T (alive c tr unstable t s) → Parts t s
   pending-parts t s p = by (hasReference c tr s t) refl
@@ -371,7 +371,7 @@ module _ (c : Config) (tr : Trace) (k : family (c .kind) ≡ stability) (high : 
       by : (b : Bool) → hasReference c tr s t ≡ b → Parts t s
       by true h =
           let r : ℕ = reference c tr s t in
-          let w : wordBefore c tr t ≡ l + withReference r = word-pending t s p ∙ rw h refl in
+          let w : goingBefore c tr t ≡ l + withReference r = word-pending t s p ∙ rw h refl in
           record {
             left-is = rw w (left-with l r (young .0));
             holds-is = rw (w, h) (holds-with l r);
@@ -379,8 +379,8 @@ module _ (c : Config) (tr : Trace) (k : family (c .kind) ≡ stability) (high : 
             none-is = rw w (lt-ltb 0 (l + withReference r) (omega arith) ∙ sym (lt-ltb 0 l (young .1)));
           }
       by false h =
-          let w : wordBefore c tr t ≡ l + 0 = word-pending t s p ∙ rw h refl in
-          let z : wordBefore c tr t ≡ l = omega (arith, w) in
+          let w : goingBefore c tr t ≡ l + 0 = word-pending t s p ∙ rw h refl in
+          let z : goingBefore c tr t ≡ l = omega (arith, w) in
           record {
             left-is = rw z (left-plain l (young .0));
             holds-is = rw (z, h) (holds-plain l (young .0));
@@ -397,7 +397,7 @@ module _ (c : Config) (tr : Trace) (k : family (c .kind) ≡ stability) (high : 
   start-parts : (t : ℕ) → T (accepted stable t) → Parts t t
   start-parts t a =
       let l : stable-before t ≡ 0 = accepted-none c tr unstable t a in
-      let w : wordBefore c tr t ≡ 0 = word-none t l in
+      let w : goingBefore c tr t ≡ 0 = word-none t l in
       record {
         left-is = rw (w, l) refl;
         holds-is = rw (w, none-before t t (le-refl t)) refl;
@@ -412,8 +412,8 @@ module _ (c : Config) (tr : Trace) (k : family (c .kind) ≡ stability) (high : 
 
   -- the cycles left, whether there is a window or not
   record Left-parts (t : ℕ) : Type 0 where
-    left-is : leftIn (wordBefore c tr t) ≡ stable-before t
-    none-is : ltb 0 (wordBefore c tr t) ≡ ltb 0 (stable-before t)
+    left-is : leftIn (goingBefore c tr t) ≡ stable-before t
+    none-is : ltb 0 (goingBefore c tr t) ≡ ltb 0 (stable-before t)
 
   left-parts : (t : ℕ) → Left-parts t
   unfolding busy
@@ -425,7 +425,7 @@ module _ (c : Config) (tr : Trace) (k : family (c .kind) ≡ stability) (high : 
       record { left-is = p .left-is; none-is = p .none-is })
       (λ (e : busy stable t ≡ false).
       let l : stable-before t ≡ 0 = omega (arith, ltb-false 0 (stable-before t) (sym (busy-left c tr unstable t) ∙ e)) in
-      let w : wordBefore c tr t ≡ 0 = word-none t l in
+      let w : goingBefore c tr t ≡ 0 = word-none t l in
       record { left-is = rw (w, l) refl; none-is = rw (w, l) refl })
       (either (busy stable t))
 
@@ -433,35 +433,35 @@ module _ (c : Config) (tr : Trace) (k : family (c .kind) ≡ stability) (high : 
 
   -- what the word says that a window forbids
   differs : ℕ → Bool
-  differs t = holds (wordBefore c tr t) && not (eqb (P c (tr t)) (referenceIn (wordBefore c tr t)))
+  differs t = holds (goingBefore c tr t) && not (eqb (P c (tr t)) (referenceIn (goingBefore c tr t)))
 
   unstable-is : (t s : ℕ) → T (current c tr unstable t s) → unstable s t ≡ differs t
   unfolding differs
   unstable-is t s h = let q = current-parts t s h in by (hasReference c tr s t) q refl
     where
-      by : (b : Bool) → Parts t s → hasReference c tr s t ≡ b → unstable s t ≡ (holds (wordBefore c tr t) && not (eqb (P c (tr t)) (referenceIn (wordBefore c tr t))))
+      by : (b : Bool) → Parts t s → hasReference c tr s t ≡ b → unstable s t ≡ (holds (goingBefore c tr t) && not (eqb (P c (tr t)) (referenceIn (goingBefore c tr t))))
       by true q e = rw (q .holds-is, e, q .reference-is e) refl
       by false q e = rw (q .holds-is, e) refl
 
-  pub stability-marks : (t : ℕ) → marksOf stability c tr t ≡ stepMarksOf c (wordBefore c tr t) (tr t) stability
+  pub stability-marks : (t : ℕ) → marksOf stability c tr t ≡ stepMarksOf c (goingBefore c tr t) (tr t) stability
   unfolding marksOf stepMarksOf stabilityChecks differs
   stability-marks t =
-      let p = left-parts t in rw (p .left-is) (marks-step c tr unstable t (wordBefore c tr t) (p .none-is) (differs t) (unstable-is t))
+      let p = left-parts t in rw (p .left-is) (marks-step c tr unstable t (goingBefore c tr t) (p .none-is) (differs t) (unstable-is t))
 
   -- for the failure list
   pub stability-violated : (t s : ℕ) → (accepted (stabilityChecks c tr) s && stabilityChecks c tr .violated s t)
-      ≡ (cond (eqb (leftIn (wordBefore c tr t)) 0) (eqb s t) (eqb (suc (s + c .n)) (leftIn (wordBefore c tr t) + t)) && stepMarksOf c (wordBefore c tr t) (tr t) stability .failure)
+      ≡ (cond (eqb (leftIn (goingBefore c tr t)) 0) (eqb s t) (eqb (suc (s + c .n)) (leftIn (goingBefore c tr t) + t)) && stepMarksOf c (goingBefore c tr t) (tr t) stability .failure)
   unfolding stepMarksOf stabilityChecks differs
   stability-violated t s =
-      let p = left-parts t in rw (p .left-is) (violated-step c tr unstable t (wordBefore c tr t) (p .none-is) (differs t) (unstable-is t) s)
+      let p = left-parts t in rw (p .left-is) (violated-step c tr unstable t (goingBefore c tr t) (p .none-is) (differs t) (unstable-is t) s)
 
-  pub stability-young : (t : ℕ) → 0 < leftIn (wordBefore c tr t) → c .n < leftIn (wordBefore c tr t) + t
+  pub stability-young : (t : ℕ) → 0 < leftIn (goingBefore c tr t) → c .n < leftIn (goingBefore c tr t) + t
   stability-young t = rw (left-parts t .left-is) (young stable tr (c .n) stable-windows t)
 
-  tested-step : (t s : ℕ) → T (current c tr unstable t s) → tested c tr s t ≡ tests c (wordBefore c tr t) (tr t) (leftIn (wordBefore c tr t))
+  tested-step : (t s : ℕ) → T (current c tr unstable t s) → tested c tr s t ≡ tests c (goingBefore c tr t) (tr t) (leftIn (goingBefore c tr t))
   unfolding tested tests opens pends
   tested-step t s h =
-      let w = wordBefore c tr t in
+      let w = goingBefore c tr t in
       let p = left-parts t in
       let i : inWindow c tr s t ≡ true = is-true (inWindow c tr s t) (and-right (accepted stable s) (inWindow c tr s t) h) in
       let o : (ltb 0 w || triggered c w (tr t)) ≡ true =
@@ -469,14 +469,14 @@ module _ (c : Config) (tr : Trace) (k : family (c .kind) ≡ stability) (high : 
       rw (i, from c tr unstable t s h, o, p .left-is, after-step c tr unstable t w (p .none-is)) refl
 
   -- what the window from s holds after t
-  kept-step : (t s : ℕ) → T (current c tr unstable t s) → kept s (suc t) ≡ held c (wordBefore c tr t) (tr t)
+  kept-step : (t s : ℕ) → T (current c tr unstable t s) → kept s (suc t) ≡ held c (goingBefore c tr t) (tr t)
   unfolding held hasReference reference some atFirst
   kept-step t s h =
       let q = current-parts t s h in
       rw (q .holds-is, ← tested-step t s h) (by (hasReference c tr s t) (tested c tr s t) (q .reference-is))
     where
       w : ℕ
-      w = wordBefore c tr t
+      w = goingBefore c tr t
 
       by : (a b : Bool) → (a ≡ true → referenceIn w ≡ reference c tr s t)
           → cond (a || b) (withReference (cond a (reference c tr s t) (cond b (P c (tr t)) 0))) 0
@@ -485,10 +485,10 @@ module _ (c : Config) (tr : Trace) (k : family (c .kind) ≡ stability) (high : 
       by false true e = refl
       by false false e = refl
 
-  pub stability-open : (t : ℕ) → up (tr t) ≡ true → openOf stability c tr t ≡ stepOpenOf c (wordBefore c tr t) (tr t) stability
+  pub stability-open : (t : ℕ) → up (tr t) ≡ true → openOf stability c tr t ≡ stepOpenOf c (goingBefore c tr t) (tr t) stability
   unfolding openOf stepOpenOf
   stability-open t u =
-      let w = wordBefore c tr t in
+      let w = goingBefore c tr t in
       let p = left-parts t in
       rw (p .left-is, ← after-step c tr unstable t w (p .none-is)) (stability-read t (cond (eqb A 0) 0 (A + held c w (tr t))) holding some-left)
     where
@@ -498,14 +498,14 @@ module _ (c : Config) (tr : Trace) (k : family (c .kind) ≡ stability) (high : 
       counted : stable-before (suc t) ≡ A
       counted = left-next c tr unstable t u
 
-      holding : (s : ℕ) → T (alive c tr unstable (suc t) s) → s + c .n - t + kept s (suc t) ≡ cond (eqb A 0) 0 (A + held c (wordBefore c tr t) (tr t))
+      holding : (s : ℕ) → T (alive c tr unstable (suc t) s) → s + c .n - t + kept s (suc t) ≡ cond (eqb A 0) 0 (A + held c (goingBefore c tr t) (tr t))
       holding s a =
           let e = live-count stable tr (c .n) stable-windows (suc t) s a in
           let r = live-range stable tr (c .n) stable-windows (suc t) s a .1 in
           let n : s + c .n - t ≡ A = omega (arith, counted) in
           rw (n, ne-eqb A 0 (omega (arith, counted)), kept-step t s (pending-current c tr unstable t s a)) refl
 
-      some-left : 0 < cond (eqb A 0) 0 (A + held c (wordBefore c tr t) (tr t)) → 0 < stable-before (suc t)
+      some-left : 0 < cond (eqb A 0) 0 (A + held c (goingBefore c tr t) (tr t)) → 0 < stable-before (suc t)
       some-left l =
           ⊎-elim (λ (e : eqb A 0 ≡ true). absurd (not-suc-le-zero (rw e at l))) (λ (e : eqb A 0 ≡ false). omega (arith, counted, eqb-false A 0 e))
           (either (eqb A 0))

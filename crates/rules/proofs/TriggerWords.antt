@@ -1,34 +1,36 @@
 -- Kinds 7 and 8: the words that traces leave are the possible ones. The cycles left are at most max. A window of kind 8 without a reference has seen no enabled cycle
 -- from s+min on, so min is not 0, since the trigger's own cycle is enabled; and one with a reference has taken it in s+min or later, so that at most max−min
 -- cycles are left. With a trigger in cycle 0 only and no reset, max − t cycles are left after cycle t; there is no reference where no later cycle is enabled, and it
--- is any value where each is and P holds that. Assumes nothing.
+-- is any value where each is and P holds that. Where P has one value in all cycles, of kind 7 the expected one, nothing fails. Assumes nothing.
 use Prim.Native.Nat.{ℕ, zero, suc, _+_, _-_, _^_, _<_, _≤_}
-use mathlib.Core.Path.{_≡_, refl, sym, subst, subst⁻¹, _∙_}
+use mathlib.Core.Path.{_≡_, refl, sym, ap, subst, subst⁻¹, _∙_}
 use mathlib.Core.Bool.{Bool, true, false, not, _&&_, _||_, cond, and-false}
 use mathlib.Core.Logic.{⊎-elim}
 use native.Mathlib.Nat.{eq-zero-or-pos}
 use native.Mathlib.Omega.{arith}
 use lib.Dec.{T, leb, ltb, eqb, leb→le, le→leb, lt→ltb, ltb→lt, eqb→eq, lit<}
-use borrow.Author.Tests.{lt-leb, ltb-false, eq-eqb}
+use borrow.Author.Tests.{le-leb, lt-leb, ltb-false, eq-eqb, ne-eqb, eqb-true, eqb-false}
 use Rattle.bits.specs.Bits.{bit, toBit, some}
 use Rattle.bus.specs.Range.{width, within}
 use lib.Pow.{pow-pos}
-use Rattle.bits.proofs.Tests.{is-true, of-true, of-false, either, and-intro, and-left, and-right, or-left, or-right, or-cases, some-intro, some-elim, some-none, every-intro}
-use Rattle.bus.proofs.Wires.{wiresFor, wires-small, value-wires, value-lt}
+use Rattle.bits.proofs.Tests.{is-true, is-false, of-true, of-false, either, and-intro, and-left, and-right, or-left, or-right, or-cases, some-intro, some-elim, some-none, every-intro}
+use Rattle.bus.proofs.Wires.{wiresFor, wires-small, value-wires, value-zero, value-lt, one-fits}
 use Rattle.rules.specs.declared.config.Config.{Config}
+use Rattle.rules.specs.declared.frame.Frame.{Frame}
 use Rattle.rules.specs.Config.{family, maxWindow}
 use Rattle.rules.specs.Config.Family.{value, stability}
 use Rattle.rules.specs.Frame.{Trace, Proper, sample, up, enabled, P, Q}
-use Rattle.rules.specs.Checks.{accepted, busy}
+use Rattle.rules.specs.Checks.{accepted, busy, fails}
 use Rattle.rules.specs.Window.{between, atFirst}
-use Rattle.rules.specs.Trigger.{withReference, triggerSeen, triggerPending, inWindow, tested, triggerChecks, hasReference, reference}
-use Rattle.rules.specs.Rules.{word, wordBefore}
-use Rattle.rules.specs.Step.{leftIn, holds, referenceIn}
-use Rattle.rules.specs.Possible.{withoutReference, withAReference, possibleOf, possible, Left}
-use Rattle.rules.proofs.Frames.{frameOf, frame-proper, zero-left}
+use Rattle.rules.specs.Trigger.{withReference, triggerSeen, triggerPending, inWindow, tested, triggerChecks, hasReference, reference, stabilityChecks}
+use Rattle.rules.specs.Rules.{Marks, marksOf, goingWord, goingBefore, failing, goingRow}
+use Rattle.rules.specs.Step.{leftIn, holds, referenceIn, pends, triggered, opens, after, tests, trackedMarks, stepMarksOf, goingStepRow}
+use Rattle.rules.specs.Possible.{withoutReference, withAReference, possibleOf, goingPossible, LeftPassing}
+use Rattle.rules.proofs.Frames.{frameOf, frame-proper, zero-left, FailsNext}
 use Rattle.rules.proofs.Good.{possible-are}
+use Rattle.rules.proofs.Rows.{row-passes, step-fails, step-passes}
 use Rattle.rules.proofs.Windows.{live-range, live-count, low}
-use Rattle.rules.proofs.TriggerRules.{windowed, alive, left-before, trigger-accepted, busy-left, forbidden, value-word, unstable, stable-before, word-pending, word-none, left-with, holds-with, reference-with}
+use Rattle.rules.proofs.TriggerRules.{windowed, alive, left-before, trigger-accepted, busy-left, forbidden, value-word, value-marks, unstable, stable-before, word-pending, word-none, left-with, holds-with, reference-with}
 
 -- ---- `atFirst`
 
@@ -61,8 +63,8 @@ with-reference c l r h z m f =
     (and-intro (ltb 0 l && leb l (c .n - c .min)) (ltb r (2 ^ width (c .p)))
     (and-intro (ltb 0 l) (leb l (c .n - c .min)) (lt→ltb 0 l z) (le→leb l (c .n - c .min) m)) (lt→ltb r (2 ^ width (c .p)) f))
 
-pub value-possible : (c : Config) (tr : Trace) → family (c .kind) ≡ value → (t : ℕ) → T (possibleOf value c (word c tr t))
-unfolding possibleOf wordBefore
+pub value-possible : (c : Config) (tr : Trace) → family (c .kind) ≡ value → (t : ℕ) → T (possibleOf value c (goingWord c tr t))
+unfolding possibleOf goingBefore
 value-possible c tr k t =
     rw (value-word c tr k (suc t))
     (le→leb (left-before c tr (forbidden c tr k) (suc t)) (c .n)
@@ -96,12 +98,12 @@ module _ (c : Config) (tr : Trace) (k : family (c .kind) ≡ stability) (high : 
   reference-below s t =
       first-below t (tested c tr s) (λ u. P c (tr u)) (2 ^ width (c .p)) (pow-pos (width (c .p))) (λ u. value-lt (c .p) (sample (tr u) 1))
 
-  word-possible : (t s : ℕ) → T (alive c tr wrong (suc t) s) → (b : Bool) → hasReference c tr s (suc t) ≡ b → T (possibleOf stability c (word c tr t))
-  unfolding possibleOf wordBefore withoutReference
+  word-possible : (t s : ℕ) → T (alive c tr wrong (suc t) s) → (b : Bool) → hasReference c tr s (suc t) ≡ b → T (possibleOf stability c (goingWord c tr t))
+  unfolding possibleOf goingBefore withoutReference
   word-possible t s p true h =
       let l = stable-before c tr k high (suc t) in
       let r : ℕ = reference c tr s (suc t) in
-      let w : word c tr t ≡ l + withReference r = word-pending c tr k high (suc t) s p ∙ rw h refl in
+      let w : goingWord c tr t ≡ l + withReference r = word-pending c tr k high (suc t) s p ∙ rw h refl in
       let e = live-count (triggerChecks c tr wrong) tr (c .n) (windowed c tr wrong) (suc t) s p in
       let g = live-range (triggerChecks c tr wrong) tr (c .n) (windowed c tr wrong) (suc t) s p in
       let m = taken t s (of-true h) in
@@ -110,8 +112,8 @@ module _ (c : Config) (tr : Trace) (k : family (c .kind) ≡ stability) (high : 
       (with-reference c l r (omega arith) (omega arith) (omega arith) (reference-below s (suc t))))
   word-possible t s p false h =
       let l = stable-before c tr k high (suc t) in
-      let w : word c tr t ≡ l + 0 = word-pending c tr k high (suc t) s p ∙ rw h refl in
-      let z : word c tr t ≡ l = omega (arith, w) in
+      let w : goingWord c tr t ≡ l + 0 = word-pending c tr k high (suc t) s p ∙ rw h refl in
+      let z : goingWord c tr t ≡ l = omega (arith, w) in
       let positive : 0 < c .min =
       ⊎-elim (λ (e : c .min ≡ 0). absurd (of-false h (own-cycle t s p e))) (λ (m : 0 < c .min). m) (eq-zero-or-pos (c .min)) in
       rw z
@@ -120,15 +122,15 @@ module _ (c : Config) (tr : Trace) (k : family (c .kind) ≡ stability) (high : 
       (and-intro (ltb 0 (c .min)) (leb l (c .n)) (lt→ltb 0 (c .min) positive)
       (le→leb l (c .n) (low (triggerChecks c tr wrong) tr (c .n) (windowed c tr wrong) (suc t))))))
 
-  pub stability-possible : (t : ℕ) → T (possibleOf stability c (word c tr t))
-  unfolding possibleOf wordBefore busy
+  pub stability-possible : (t : ℕ) → T (possibleOf stability c (goingWord c tr t))
+  unfolding possibleOf goingBefore busy
   stability-possible t =
       ⊎-elim
       (λ (e : ltb 0 (stable-before c tr k high (suc t)) ≡ true).
       let r = some-elim (suc t) (alive c tr wrong (suc t)) (of-true (busy-left c tr wrong (suc t) ∙ e)) in
       word-possible t (r .at) (r .holds) (hasReference c tr (r .at) (suc t)) refl)
       (λ (e : ltb 0 (stable-before c tr k high (suc t)) ≡ false).
-      let z : word c tr t ≡ 0 = word-none c tr k high (suc t) (omega (arith, ltb-false 0 (stable-before c tr k high (suc t)) e)) in rw z tt)
+      let z : goingWord c tr t ≡ 0 = word-none c tr k high (suc t) (omega (arith, ltb-false 0 (stable-before c tr k high (suc t)) e)) in rw z tt)
       (either (ltb 0 (stable-before c tr k high (suc t))))
 
 -- what a possible word of kind 8 says of its parts
@@ -138,7 +140,7 @@ pub record WordParts (c : Config) (w : ℕ) : Type 0 where
   pub plain-low : w < 2 ^ 48 → w ≤ c .n
   pub compared-low : 2 ^ 48 ≤ w → leftIn w ≤ c .n - c .min
 
-pub word-parts : (c : Config) (w : ℕ) → family (c .kind) ≡ stability → c .n ≤ maxWindow → T (possible c w) → WordParts c w
+pub word-parts : (c : Config) (w : ℕ) → family (c .kind) ≡ stability → c .n ≤ maxWindow → T (goingPossible c w) → WordParts c w
 unfolding possibleOf withoutReference withAReference
 word-parts c w k high h =
     ⊎-elim
@@ -220,37 +222,127 @@ first-small zero = lit< tt
 first-small (suc t) = lit< tt
 
 -- the word 0 is left, and any other for which there is a trace
-or-zero : (c : Config) (w : ℕ) → (0 < w → Left c w) → Left c w
+or-zero : (c : Config) (w : ℕ) → (0 < w → LeftPassing c w) → LeftPassing c w
 or-zero c zero h = zero-left c
 or-zero c (suc w) h = h (omega arith)
 
-module _ (c : Config) (g : T (within (c .q))) (v : width (c .q) ≡ 1) (high : c .n ≤ maxWindow) where
-  pub value-left : family (c .kind) ≡ value → (w : ℕ) → T (possibleOf value c w) → Left c w
-  unfolding possibleOf wordBefore always up enabled bit once
-  value-left k w h =
-      or-zero c w
-      (λ z.
-      let tr = once c always 0 in
-      let l = leb→le w (c .n) h in
-      record {
-        trace = tr;
-        cycle = c .n - w;
-        short = omega arith;
-        proper = once-proper c always 0 (λ t. lit< tt);
-        leaves = value-word c tr k (suc (c .n - w)) ∙ left-first c always 0 g v (λ t. refl) refl (forbidden c tr k) (c .n - w) (omega arith) ∙ omega arith;
-      })
+-- ---- nothing fails where P has one value
+
+module _ (c : Config) (control : ℕ → ℕ) (x : ℕ) (w : T (within (c .p))) (f : x < 2 ^ width (c .p)) where
+  same : (t : ℕ) → P c (once c control x t) ≡ x
+  unfolding once
+  same t = value-wires (c .p) x w f
+
+  value-passes : family (c .kind) ≡ value → x ≡ c .value → (t : ℕ) → failing (goingRow c (once c control x) t) ≡ false
+  unfolding stepMarksOf trackedMarks
+  value-passes k e t =
+      let tr = once c control x in
+      let marks = value-marks c tr k t in
+      row-passes c tr t value k (ap (λ (m : Marks). m .failure) marks ∙ rw (same t, eq-eqb x (c .value) e) (and-false (tests c (goingBefore c tr t) (tr t) (goingBefore c tr t))))
+      (ap (λ (m : Marks). m .illegal) marks)
+
+  -- a reference is that value
+  stable : (s t : ℕ) → (hasReference c (once c control x) s t && not (eqb (P c (once c control x t)) (reference c (once c control x) s t))) ≡ false
+  unfolding hasReference reference
+  stable s t =
+      let tr = once c control x in
+      ⊎-elim
+      (λ (h : some t (tested c tr s) ≡ true).
+      rw (h, same t, first-same t (tested c tr s) (λ u. P c (tr u)) x same (of-true h), eq-eqb x x refl) refl)
+      (λ (h : some t (tested c tr s) ≡ false). rw h refl) (either (some t (tested c tr s)))
+
+  stability-passes : family (c .kind) ≡ stability → (t : ℕ) → failing (goingRow c (once c control x) t) ≡ false
+  unfolding marksOf fails stabilityChecks triggerChecks
+  stability-passes k t =
+      let tr = once c control x in
+      row-passes c tr t stability k
+      (some-none (suc t) (λ s. accepted (stabilityChecks c tr) s && stabilityChecks c tr .violated s t)
+      (λ s l. rw (stable s t, and-false (tested c tr s t)) (and-false (accepted (stabilityChecks c tr) s))))
+      refl
+
+module _ (c : Config) (g : T (within (c .q))) (v : width (c .q) ≡ 1) (high : c .n ≤ maxWindow) (f : T (within (c .p))) where
+  module _ (k : family (c .kind) ≡ value) (fits : c .value < 2 ^ width (c .p)) where
+    pub value-left : (w : ℕ) → T (possibleOf value c w) → LeftPassing c w
+    unfolding possibleOf goingBefore always up enabled bit once
+    value-left w h =
+        or-zero c w
+        (λ z.
+        let tr = once c always (c .value) in
+        let l = leb→le w (c .n) h in
+        record {
+          trace = tr;
+          cycle = c .n - w;
+          short = omega arith;
+          early = λ _. omega arith;
+          proper = once-proper c always (c .value) (λ t. lit< tt);
+          leaves = value-word c tr k (suc (c .n - w)) ∙ left-first c always (c .value) g v (λ t. refl) refl (forbidden c tr k) (c .n - w) (omega arith) ∙ omega arith;
+          passes = λ t l. value-passes c always (c .value) f fits k refl t;
+        })
+
+    -- the tracked value is another in s+max
+    pub value-fails : c .min ≤ c .n → FailsNext c
+    unfolding possibleOf zero-left stepMarksOf trackedMarks tests opens after triggered pends enabled up bit
+    value-fails low = ⊎-elim at-once later (eq-zero-or-pos (c .n))
+      where
+        other : ℕ
+        other = cond (eqb (c .value) 0) 1 0
+
+        other-fits : other < 2 ^ width (c .p)
+        other-fits =
+            ⊎-elim (λ (e : eqb (c .value) 0 ≡ true). rw e (one-fits (c .p))) (λ (e : eqb (c .value) 0 ≡ false). rw e (pow-pos (width (c .p))))
+            (either (eqb (c .value) 0))
+
+        differs : eqb other (c .value) ≡ false
+        differs =
+            ⊎-elim (λ (e : eqb (c .value) 0 ≡ true). rw (e, eqb-true (c .value) 0 e) refl)
+            (λ (e : eqb (c .value) 0 ≡ false). rw e (ne-eqb 0 (c .value) (λ z. eqb-false (c .value) 0 e (sym z))))
+            (either (eqb (c .value) 0))
+
+        frame : Frame
+        frame = frameOf 3 (wiresFor (c .p) other) (wiresFor (c .q) 1) 0
+
+        frame-is : Proper frame
+        frame-is = frame-proper 3 (wiresFor (c .p) other) (wiresFor (c .q) 1) 0 (lit< tt) (wires-small (c .p) other) (wires-small (c .q) 1) (lit< tt)
+
+        trigger : Q c frame ≡ 1
+        trigger = value-wires (c .q) 1 g (rw v (lit< tt))
+
+        tracked : P c frame ≡ other
+        tracked = value-wires (c .p) other f other-fits
+
+        at-once : c .n ≡ 0 → FailsNext c
+        at-once z = record {
+          word = 0;
+          left = zero-left c;
+          room = lit< tt;
+          frame = frame;
+          proper = frame-is;
+          fails = step-fails c 0 frame value k refl (rw (trigger, tracked, differs, le-leb (c .n + c .min) (c .n) (omega arith)) refl);
+        }
+
+        later : 0 < c .n → FailsNext c
+        later p = record {
+          word = 1;
+          left = value-left 1 (le→leb 1 (c .n) p);
+          room = value-left 1 (le→leb 1 (c .n) p) .early (lit< tt);
+          frame = frame;
+          proper = frame-is;
+          fails = step-fails c 1 frame value k refl (rw (trigger, tracked, differs, le-leb (0 + c .min) (c .n) (omega arith)) refl);
+        }
 
   module _ (k : family (c .kind) ≡ stability) where
     abbrev few : c .n < 2 ^ 16
     few = omega arith
 
-    without-left : (w : ℕ) → 0 < c .min → w ≤ c .n → 0 < w → Left c w
-    unfolding wordBefore enabled up bit once first-only tested hasReference
+    without-left : (w : ℕ) → 0 < c .min → w ≤ c .n → 0 < w → LeftPassing c w
+    unfolding goingBefore enabled up bit once first-only tested hasReference
     without-left w m l z = record {
       trace = tr₁;
       cycle = c .n - w;
       short = omega arith;
+      early = λ _. omega arith;
       proper = once-proper c first-only 0 first-small;
+      passes = λ t _. stability-passes c first-only 0 f (pow-pos (width (c .p))) k t;
       leaves = word-pending c tr₁ k few (suc (c .n - w)) 0 (first-alive c first-only 0 g v (first-up c 0) refl wrong₁ (c .n - w) (omega arith))
           ∙ rw (no-reference (suc (c .n - w)), left-first c first-only 0 g v (first-up c 0) refl wrong₁ (c .n - w) (omega arith)) (omega arith);
     }
@@ -268,13 +360,15 @@ module _ (c : Config) (g : T (within (c .q))) (v : width (c .q) ≡ 1) (high : c
         no-reference : (t : ℕ) → hasReference c tr₁ 0 t ≡ false
         no-reference t = some-none t (tested c tr₁ 0) (λ u l. untested u)
 
-    with-left : (l r : ℕ) → 0 < l → l ≤ c .n - c .min → r < 2 ^ width (c .p) → T (within (c .p)) → Left c (l + withReference r)
-    unfolding wordBefore always up enabled bit once tested hasReference reference
-    with-left l r z m f w = record {
+    with-left : (l r : ℕ) → 0 < l → l ≤ c .n - c .min → r < 2 ^ width (c .p) → LeftPassing c (l + withReference r)
+    unfolding goingBefore always up enabled bit once tested hasReference reference
+    with-left l r z m fits = record {
       trace = tr₁;
       cycle = c .n - l;
       short = omega arith;
+      early = λ _. omega arith;
       proper = once-proper c always r (λ t. lit< tt);
+      passes = λ t _. stability-passes c always r f fits k t;
       leaves = word-pending c tr₁ k few (suc (c .n - l)) 0 (first-alive c always r g v (λ t. refl) refl wrong₁ (c .n - l) (omega arith))
           ∙ rw (is-true (hasReference c tr₁ 0 (suc (c .n - l))) taken, held, left-first c always r g v (λ t. refl) refl wrong₁ (c .n - l) (omega arith)) (omega arith);
     }
@@ -292,14 +386,14 @@ module _ (c : Config) (g : T (within (c .q))) (v : width (c .q) ≡ 1) (high : c
             (le→leb (0 + c .min) (c .min) (omega arith)))
 
         held : reference c tr₁ 0 (suc (c .n - l)) ≡ r
-        held = first-same (suc (c .n - l)) (tested c tr₁ 0) (λ u. P c (tr₁ u)) r (λ u. value-wires (c .p) r w f) taken
+        held = first-same (suc (c .n - l)) (tested c tr₁ 0) (λ u. P c (tr₁ u)) r (same c always r f fits) taken
 
-    pub stability-left : T (within (c .p)) → (w : ℕ) → T (possibleOf stability c w) → Left c w
+    pub stability-left : (w : ℕ) → T (possibleOf stability c w) → LeftPassing c w
     unfolding possibleOf withoutReference withAReference
-    stability-left f w h =
+    stability-left w h =
         ⊎-elim
         (λ (o : T (eqb w 0 || withoutReference c w)).
-        ⊎-elim (λ (e : T (eqb w 0)). subst⁻¹ (Left c) (eqb→eq w 0 e) (zero-left c))
+        ⊎-elim (λ (e : T (eqb w 0)). subst⁻¹ (LeftPassing c) (eqb→eq w 0 e) (zero-left c))
         (λ (b : T (ltb 0 (c .min) && leb w (c .n))).
         or-zero c w
         (without-left w (ltb→lt 0 (c .min) (and-left (ltb 0 (c .min)) (leb w (c .n)) b)) (leb→le w (c .n) (and-right (ltb 0 (c .min)) (leb w (c .n)) b))))
@@ -311,7 +405,32 @@ module _ (c : Config) (g : T (within (c .q))) (v : width (c .q) ≡ 1) (high : c
         let a = and-left (holds w && inside) fits o in
         let i = and-right (holds w) inside a in
         let whole : l + withReference (referenceIn w) ≡ w = omega (arith, leb→le (2 ^ 48) w (and-left (holds w) inside a)) in
-        subst (Left c) whole
+        subst (LeftPassing c) whole
         (with-left l (referenceIn w) (ltb→lt 0 l (and-left (ltb 0 l) (leb l (c .n - c .min)) i)) (leb→le l (c .n - c .min) (and-right (ltb 0 l) (leb l (c .n - c .min)) i))
-        (ltb→lt (referenceIn w) (2 ^ width (c .p)) (and-right (holds w && inside) fits o)) f))
+        (ltb→lt (referenceIn w) (2 ^ width (c .p)) (and-right (holds w && inside) fits o))))
         (or-cases (eqb w 0 || withoutReference c w) (withAReference c w) h)
+
+    -- the reference is 0, and the tracked value 1 in s+max
+    pub stability-fails : c .min < c .n → FailsNext c
+    unfolding stepMarksOf trackedMarks tests opens after triggered pends enabled up bit
+    stability-fails low = record {
+      word = 1 + withReference 0;
+      left = with-left 1 0 (lit< tt) (omega arith) (pow-pos (width (c .p)));
+      room = with-left 1 0 (lit< tt) (omega arith) (pow-pos (width (c .p))) .early (lit< tt);
+      frame = frameOf 3 (wiresFor (c .p) 1) 0 0;
+      proper = frame-proper 3 (wiresFor (c .p) 1) 0 0 (lit< tt) (wires-small (c .p) 1) (lit< tt) (lit< tt);
+      fails = step-fails c (1 + withReference 0) (frameOf 3 (wiresFor (c .p) 1) 0 0) stability k refl
+          (rw (value-zero (c .q), value-wires (c .p) 1 f (one-fits (c .p)), le-leb (0 + c .min) (c .n) (omega arith)) refl);
+    }
+
+-- kind 8 with min equal to max: there is no reference before s+max, so nothing fails
+pub stability-never : (c : Config) (w : ℕ) (f : Frame) → family (c .kind) ≡ stability → c .n ≤ maxWindow → c .min ≡ c .n → T (goingPossible c w)
+    → failing (goingStepRow c w f) ≡ false
+unfolding stepMarksOf trackedMarks
+stability-never c w f k high e h = step-passes c w f stability k (rw none (and-false (tests c w f (leftIn w)))) refl
+  where
+    none : holds w ≡ false
+    none =
+        let parts = word-parts c w k high h in
+        is-false (holds w)
+        (λ o. let m = leb→le (2 ^ 48) w o in omega (arith, parts .compared-low m, parts .some-left (omega arith)))

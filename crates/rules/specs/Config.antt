@@ -1,4 +1,4 @@
--- A checker's configuration and when it is refused, from document 01, "Seven checkers" and "Refusal numbers", and document 02, §4 and §5. Assumes nothing.
+-- A checker's configuration and when it is refused, from document 01, "Seven checkers" and "Refusal numbers", and document 02, §4, §5 and §7. Assumes nothing.
 use Prim.Native.Nat.{ℕ, _^_}
 use mathlib.Core.Path.{_≡_}
 use mathlib.Core.Bool.{Bool, true, false, _&&_, cond}
@@ -70,8 +70,15 @@ valueFits c = cond (eqb (c .kind) 7) (ltb (c .value) (2 ^ width (c .p))) (eqb (c
 unfoldable pub nFits : Config → Bool
 nFits c = limitsOf (family (c .kind)) (c .n)
 
+-- "a severity: 0 goes on, 1 is fatal, else refusal 2"
+unfoldable pub severityFits : Config → Bool
+severityFits c = leb (c .severity) 1
+
+unfoldable pub fatal : Config → Bool
+fatal c = eqb (c .severity) 1
+
 unfoldable pub limits : Config → Bool
-limits c = nFits c && minFits c
+limits c = (nFits c && minFits c) && severityFits c
 
 -- no index above 31, the right widths, unused ports 0:0, and the value that is expected at P
 unfoldable pub ports : Config → Bool
@@ -87,3 +94,17 @@ configRefusal c = cond (leb (c .kind) maxKind) (cond (limits c) (cond (ports c) 
 -- a configuration that no call refuses
 abbrev pub Good : Config → Type 0
 Good c = configRefusal c ≡ 0
+
+-- the same checker, made to go on after a failure, and made fatal
+abbrev pub withSeverity : ℕ → Config → Config
+withSeverity x c = record { kind = c .kind; n = c .n; p = c .p; q = c .q; r = c .r; min = c .min; value = c .value; severity = x }
+
+abbrev pub goingOn : Config → Config
+goingOn c = withSeverity 0 c
+
+abbrev pub fatally : Config → Config
+fatally c = withSeverity 1 c
+
+-- a checker of a family that goes on after a failure
+abbrev pub GoesOn : Family → Config → Type 0
+GoesOn k c = (family (c .kind) ≡ k) × (c .severity ≡ 0)

@@ -1,16 +1,16 @@
--- Which open words are possible, the refusal of another to go on from, and how many checks one says are unfinished, from document 01 and document 02, §4.
--- Assumes nothing.
-use Prim.Native.Nat.{ℕ, _-_, _^_, _<_}
+-- Which open words are possible, the refusal of another to go on from, and how many checks one says are unfinished, from document 01 and document 02, §4
+-- and §7. Assumes nothing.
+use Prim.Native.Nat.{ℕ, suc, _-_, _^_, _<_, _≤_}
 use mathlib.Core.Path.{_≡_}
 use mathlib.Core.Bool.{Bool, false, not, _&&_, _||_, cond}
 use lib.Dec.{leb, ltb, eqb}
 use lib.Count.{ones}
 use Rattle.bus.specs.Range.{width}
 use Rattle.rules.specs.declared.config.Config.{Config}
-use Rattle.rules.specs.Config.{Family, family, configRefusal}
+use Rattle.rules.specs.Config.{Family, family, fatal, configRefusal}
 use Rattle.rules.specs.Config.Family.{sequence, time, transition, value, stability, none}
 use Rattle.rules.specs.Frame.{Trace, Proper}
-use Rattle.rules.specs.Rules.{word}
+use Rattle.rules.specs.Rules.{goingRow, goingWord, failing, stoppedWord, word}
 use Rattle.rules.specs.Step.{leftIn, holds, referenceIn}
 
 -- kind 8: 1 to max cycles left without a reference, where min is above 0; or 1 to max−min with a reference below 2^width(P)
@@ -31,8 +31,16 @@ possibleOf value c w = leb w (c .n)
 possibleOf stability c w = eqb w 0 || withoutReference c w || withAReference c w
 possibleOf none c w = false
 
+-- of a checker that goes on
+unfoldable pub goingPossible : Config → ℕ → Bool
+goingPossible c w = possibleOf (family (c .kind)) c w
+
+-- "2^63 is possible exactly for a fatal checker that can fail (all but kind 8 with min equal to max)"
+unfoldable pub canFail : Config → Bool
+canFail c = not (eqb (c .kind) 8 && eqb (c .min) (c .n))
+
 unfoldable pub possible : Config → ℕ → Bool
-possible c w = possibleOf (family (c .kind)) c w
+possible c w = goingPossible c w || (fatal c && canFail c && eqb w stoppedWord)
 
 -- "7: the word to go on from is not possible"; tested "by number", so after 1 to 3
 unfoldable pub wordRefusal : Config → ℕ → ℕ
@@ -46,6 +54,17 @@ pub record Left (c : Config) (w : ℕ) : Type 0 where
   pub proper : (t : ℕ) → Proper (trace t)
   pub leaves : word c trace cycle ≡ w
 
+-- the same of a checker that goes on, by a trace in which nothing fails up to that cycle, so that a fatal checker leaves the word too; a word other than 0 with room for a
+-- frame more
+pub record LeftPassing (c : Config) (w : ℕ) : Type 0 where
+  pub trace : Trace
+  pub cycle : ℕ
+  pub short : cycle < 65536
+  pub early : 0 < w → suc cycle < 65536
+  pub proper : (t : ℕ) → Proper (trace t)
+  pub leaves : goingWord c trace cycle ≡ w
+  pub passes : (t : ℕ) → t ≤ cycle → failing (goingRow c trace t) ≡ false
+
 -- "Open count of a possible word: the number of its ones for kinds 0 to 2, otherwise 1 when a check is unfinished, else 0."
 unfoldable pub openCountOf : Family → ℕ → ℕ
 openCountOf sequence w = ones w
@@ -55,5 +74,6 @@ openCountOf value w = cond (eqb w 0) 0 1
 openCountOf stability w = cond (eqb w 0) 0 1
 openCountOf none w = 0
 
+-- of 2^63 "its open count is 0"
 unfoldable pub openCount : Config → ℕ → ℕ
-openCount c w = openCountOf (family (c .kind)) w
+openCount c w = cond (eqb w stoppedWord) 0 (openCountOf (family (c .kind)) w)

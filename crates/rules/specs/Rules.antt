@@ -1,10 +1,10 @@
--- The row and the open word of every cycle of a trace, from document 01, "Seven checkers", and document 02, §4. Assumes nothing.
-use Prim.Native.Nat.{ℕ, zero, suc, _+_, _*_}
-use mathlib.Core.Bool.{Bool, false, cond}
+-- The row and the open word of every cycle of a trace, from document 01, "Seven checkers", and document 02, §4 and §7. Assumes nothing.
+use Prim.Native.Nat.{ℕ, zero, suc, _+_, _*_, _^_}
+use mathlib.Core.Bool.{Bool, false, _&&_, _||_, cond}
 use lib.Dec.{eqb}
-use Rattle.bits.specs.Bits.{toBit}
+use Rattle.bits.specs.Bits.{toBit, bit, some}
 use Rattle.rules.specs.declared.config.Config.{Config}
-use Rattle.rules.specs.Config.{Family, family}
+use Rattle.rules.specs.Config.{Family, family, fatal}
 use Rattle.rules.specs.Config.Family.{sequence, time, transition, value, stability, none}
 use Rattle.rules.specs.Frame.{Trace, up}
 use Rattle.rules.specs.Checks.{Checks, accepted, fails}
@@ -64,14 +64,40 @@ openOf value c tr t = valueLeft c tr t
 openOf stability c tr t = stabilityLeft c tr t
 openOf none c tr t = 0
 
--- "A cycle with reset_n 0 has row 0 and open word 0, and ends every check."
-unfoldable pub row : Config → Trace → ℕ → ℕ
-row c tr t = cond (up (tr t)) (rowOf (marksOf (family (c .kind)) c tr t)) 0
+-- ---- a checker that goes on after a failure
 
-unfoldable pub word : Config → Trace → ℕ → ℕ
-word c tr t = cond (up (tr t)) (openOf (family (c .kind)) c tr t) 0
+-- "A cycle with reset_n 0 has row 0 and open word 0, and ends every check."
+unfoldable pub goingRow : Config → Trace → ℕ → ℕ
+goingRow c tr t = cond (up (tr t)) (rowOf (marksOf (family (c .kind)) c tr t)) 0
+
+unfoldable pub goingWord : Config → Trace → ℕ → ℕ
+goingWord c tr t = cond (up (tr t)) (openOf (family (c .kind)) c tr t) 0
 
 -- the open word before a cycle: "Before cycle 0 the word is 0."
+unfoldable pub goingBefore : Config → Trace → ℕ → ℕ
+goingBefore c tr zero = 0
+goingBefore c tr (suc t) = goingWord c tr t
+
+-- ---- any checker
+
+-- a row "with mark 1 or 2", whatever its other bits are
+unfoldable pub failing : ℕ → Bool
+failing row = bit row 0 || bit row 1
+
+-- "After a cycle with mark 1 or 2 on a fatal checker": one of the cycles before t has such a mark, by the rules of a checker that goes on
+unfoldable pub stoppedBefore : Config → Trace → ℕ → Bool
+stoppedBefore c tr t = fatal c && some t (λ s. failing (goingRow c tr s))
+
+-- "the open word is 2^63 to the end of the trace, rows are 0, and a reset does not revive it." "The failing cycle itself has all its marks."
+abbrev pub stoppedWord : ℕ
+stoppedWord = 2 ^ 63
+
+unfoldable pub row : Config → Trace → ℕ → ℕ
+row c tr t = cond (stoppedBefore c tr t) 0 (goingRow c tr t)
+
+unfoldable pub word : Config → Trace → ℕ → ℕ
+word c tr t = cond (stoppedBefore c tr (suc t)) stoppedWord (goingWord c tr t)
+
 unfoldable pub wordBefore : Config → Trace → ℕ → ℕ
 wordBefore c tr zero = 0
 wordBefore c tr (suc t) = word c tr t

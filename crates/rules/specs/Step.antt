@@ -7,11 +7,11 @@ use lib.Dec.{leb, ltb, eqb}
 use Rattle.bits.specs.Bits.{bit, some, number}
 use Rattle.rules.specs.declared.config.Config.{Config}
 use Rattle.rules.specs.declared.frame.Frame.{Frame}
-use Rattle.rules.specs.Config.{Family, family}
+use Rattle.rules.specs.Config.{Family, family, fatal}
 use Rattle.rules.specs.Config.Family.{sequence, time, transition, value, stability, none}
 use Rattle.rules.specs.Frame.{up, enabled, P, Q, R}
 use Rattle.rules.specs.Trigger.{withReference}
-use Rattle.rules.specs.Rules.{Marks, checkMarks, windowMarks, rowOf}
+use Rattle.rules.specs.Rules.{Marks, checkMarks, windowMarks, rowOf, failing, stoppedWord}
 
 -- the parts of an open word of kind 8: the cycles left, whether it holds a reference, and the reference
 abbrev pub leftIn : ℕ → ℕ
@@ -103,12 +103,19 @@ module _ (c : Config) (w : ℕ) (f : Frame) where
   stepOpenOf stability = cond (eqb (after (leftIn w)) 0) 0 (after (leftIn w) + held)
   stepOpenOf none = 0
 
-  -- the row and the next open word of one step
+  -- the row and the next open word of one step of a checker that goes on
+  unfoldable pub goingStepRow : ℕ
+  goingStepRow = cond (up f) (rowOf (stepMarksOf (family (c .kind)))) 0
+
+  unfoldable pub goingStepWord : ℕ
+  goingStepWord = cond (up f) (stepOpenOf (family (c .kind))) 0
+
+  -- of any checker: from 2^63 a fatal one has row 0 and 2^63, and it comes there by a row with mark 1 or 2
   unfoldable pub stepRow : ℕ
-  stepRow = cond (up f) (rowOf (stepMarksOf (family (c .kind)))) 0
+  stepRow = cond (fatal c && eqb w stoppedWord) 0 goingStepRow
 
   unfoldable pub stepWord : ℕ
-  stepWord = cond (up f) (stepOpenOf (family (c .kind))) 0
+  stepWord = cond (fatal c && (eqb w stoppedWord || failing goingStepRow)) stoppedWord goingStepWord
 
 -- the row and the next word of a step out of reset, for the family's rules
 pub record StepsTo (k : Family) (c : Config) (w : ℕ) (f : Frame) (row next : ℕ) : Type 0 where

@@ -1,12 +1,13 @@
 -- The twelve cases of document 01, "Whiteboard table", with the rows and words that it shows; the rows of H are those of document 02, §2. Below them six cases of
--- document 02, §4, worked by hand (`docs/requests/04.md`). That the rules give these is `whiteboard` of `proofs/Cases.antt`. Assumes nothing.
+-- document 02, §4, and four of §7, worked by hand (`docs/requests/04.md`, `docs/requests/07.md`). That the rules give these is `whiteboard` of `proofs/Cases.antt`. Assumes nothing.
 use Prim.Native.Nat.{ℕ, zero, suc}
 use mathlib.Core.List.{List, [], _∷_}
 use lib.ListN.{getD, length}
 use Rattle.bus.specs.declared.range.Range.{Range}
 use Rattle.rules.specs.declared.config.Config.{Config}
+use Rattle.rules.specs.Config.{fatally}
 use Rattle.rules.specs.Frame.{Trace}
-use Rattle.rules.specs.Rules.{row, word}
+use Rattle.rules.specs.Rules.{stoppedWord, row, word}
 
 -- a checker, and what is sampled at P, Q and R in each cycle: "Reset_n is 1." The reset words are 1 where none are given.
 pub record Case : Type 0 where
@@ -30,7 +31,7 @@ range left right = record { left = left; right = right }
 -- kinds 0 to 2: P alone; kinds 3 to 5: P and Q, one wire each
 abbrev pub sequenceCase : ℕ → ℕ → Range → List ℕ → Case
 sequenceCase kind n p samples = record {
-  config = record { kind = kind; n = n; p = p; q = range 0 0; r = range 0 0; min = 0; value = 0 };
+  config = record { kind = kind; n = n; p = p; q = range 0 0; r = range 0 0; min = 0; value = 0; severity = 0 };
   resets = [];
   p = samples;
   q = [];
@@ -39,17 +40,21 @@ sequenceCase kind n p samples = record {
 
 abbrev pub timeCase : ℕ → ℕ → List ℕ → List ℕ → Case
 timeCase kind n starts tests = record {
-  config = record { kind = kind; n = n; p = range 0 0; q = range 0 0; r = range 0 0; min = 0; value = 0 };
+  config = record { kind = kind; n = n; p = range 0 0; q = range 0 0; r = range 0 0; min = 0; value = 0; severity = 0 };
   resets = [];
   p = starts;
   q = tests;
   r = [];
 }
 
+-- the same, with these reset words
+abbrev under : List ℕ → Case → Case
+under resets k = record { config = k .config; resets = resets; p = k .p; q = k .q; r = k .r }
+
 -- kind 6, all [2:0]
 abbrev pub transitionCase : List ℕ → List ℕ → List ℕ → Case
 transitionCase tests starts nexts = record {
-  config = record { kind = 6; n = 0; p = range 2 0; q = range 2 0; r = range 2 0; min = 0; value = 0 };
+  config = record { kind = 6; n = 0; p = range 2 0; q = range 2 0; r = range 2 0; min = 0; value = 0; severity = 0 };
   resets = [];
   p = tests;
   q = starts;
@@ -59,7 +64,7 @@ transitionCase tests starts nexts = record {
 -- kinds 7 and 8: P is the tracked value, Q the trigger
 abbrev pub triggerCase : ℕ → ℕ → ℕ → ℕ → Range → List ℕ → List ℕ → List ℕ → Case
 triggerCase kind min max value p resets tracked triggers = record {
-  config = record { kind = kind; n = max; p = p; q = range 0 0; r = range 0 0; min = min; value = value };
+  config = record { kind = kind; n = max; p = p; q = range 0 0; r = range 0 0; min = min; value = value; severity = 0 };
   resets = resets;
   p = tracked;
   q = triggers;
@@ -153,9 +158,30 @@ caseQ = record { given = triggerCase 8 1 4 0 (range 2 0) (3 ∷ 1 ∷ 3 ∷ 3 �
 abbrev caseR : Entry
 caseR = record { given = triggerCase 8 0 2 0 (range 2 0) enabled (3 ∷ 3 ∷ 3 ∷ 2 ∷ 2 ∷ 2 ∷ []) (1 ∷ 1 ∷ 1 ∷ 1 ∷ 0 ∷ 0 ∷ []); rows = 4 ∷ 0 ∷ 8 ∷ 4 ∷ 0 ∷ 8 ∷ []; words = 281474976907266 ∷ 281474976907265 ∷ 0 ∷ 281474976841730 ∷ 281474976841729 ∷ 0 ∷ [] }
 
+-- ---- fatal checkers: the first cycle with mark 1 or 2 has all its marks, and from it on the word is 2^63
+
+abbrev pub madeFatal : Case → Case
+madeFatal k = record { config = fatally (k .config); resets = k .resets; p = k .p; q = k .q; r = k .r }
+
+-- E, which fails in cycle 2 for the first time, where it has mark 4 too
+abbrev caseS : Entry
+caseS = record { given = madeFatal (sequenceCase 1 3 (range 2 0) D); rows = 4 ∷ 4 ∷ 5 ∷ 0 ∷ 0 ∷ 0 ∷ []; words = 1 ∷ 3 ∷ stoppedWord ∷ stoppedWord ∷ stoppedWord ∷ stoppedWord ∷ [] }
+
+-- kind 5, stopped by an illegal start; nothing fails
+abbrev caseT : Entry
+caseT = record { given = madeFatal (timeCase 5 3 starts (0 ∷ 1 ∷ 1 ∷ 1 ∷ 1 ∷ 1 ∷ [])); rows = 4 ∷ 0 ∷ 2 ∷ 0 ∷ 0 ∷ 0 ∷ []; words = 3 ∷ 2 ∷ stoppedWord ∷ stoppedWord ∷ stoppedWord ∷ stoppedWord ∷ [] }
+
+-- kind 3: it fails in the cycle that closes its window, and a reset in cycle 3 does not revive it, so that the start in cycle 4 opens none
+abbrev caseU : Entry
+caseU = record { given = under (1 ∷ 1 ∷ 1 ∷ 0 ∷ 1 ∷ 1 ∷ []) (madeFatal (timeCase 3 2 (1 ∷ 0 ∷ 0 ∷ 0 ∷ 1 ∷ 0 ∷ []) (0 ∷ 1 ∷ 0 ∷ 1 ∷ 0 ∷ 0 ∷ []))); rows = 4 ∷ 0 ∷ 9 ∷ 0 ∷ 0 ∷ 0 ∷ []; words = 2 ∷ 1 ∷ stoppedWord ∷ stoppedWord ∷ stoppedWord ∷ stoppedWord ∷ [] }
+
+-- kind 8 with min equal to max, which has no failures: P changes in each cycle
+abbrev caseV : Entry
+caseV = record { given = madeFatal (triggerCase 8 1 1 0 (range 2 0) enabled (0 ∷ 1 ∷ 2 ∷ 3 ∷ 4 ∷ 5 ∷ []) (1 ∷ 0 ∷ 0 ∷ 1 ∷ 0 ∷ 0 ∷ [])); rows = 4 ∷ 8 ∷ 0 ∷ 4 ∷ 8 ∷ 0 ∷ []; words = 1 ∷ 0 ∷ 0 ∷ 1 ∷ 0 ∷ 0 ∷ [] }
+
 -- the table, and the cases below it
 abbrev pub table : List Entry
-table = caseA ∷ caseB ∷ caseC ∷ caseD ∷ caseE ∷ caseF ∷ caseG ∷ caseH ∷ caseI ∷ caseJ ∷ caseK ∷ caseL ∷ caseM ∷ caseN ∷ caseO ∷ caseP ∷ caseQ ∷ caseR ∷ []
+table = caseA ∷ caseB ∷ caseC ∷ caseD ∷ caseE ∷ caseF ∷ caseG ∷ caseH ∷ caseI ∷ caseJ ∷ caseK ∷ caseL ∷ caseM ∷ caseN ∷ caseO ∷ caseP ∷ caseQ ∷ caseR ∷ caseS ∷ caseT ∷ caseU ∷ caseV ∷ []
 
 -- the same case with the rows and words that the rules give
 abbrev pub byRules : Entry → Entry

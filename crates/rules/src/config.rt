@@ -13,7 +13,11 @@ pub const MAX_WINDOW: u32 = 65535;
 // The highest kind.
 pub const MAX_KIND: u8 = 8;
 
-// The kind, num_cks or max, the declared ranges of the ports P, Q and R, and of kinds 7 and 8 min and the expected value, 0 where unused.
+// The severity of a fatal checker, which is the highest.
+pub const FATAL: u8 = 1;
+
+// The kind, num_cks or max, the declared ranges of the ports P, Q and R, of kinds 7 and 8 min and the expected value, 0 where unused, and the severity: 0 goes on
+// after a failure, 1 is fatal.
 #[repr(C)]
 pub struct Config {
     pub kind: u8,
@@ -23,4 +27,5 @@ pub struct Config {
     pub r: Range,
     pub min: u32,
     pub value: u32,
+    pub severity: u8,
 }

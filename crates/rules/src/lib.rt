@@ -3,8 +3,10 @@ mod config;
 mod frame;
 mod marks;
 mod reference;
+mod stopped;
 
 pub use config::Config;
+pub use config::FATAL;
 pub use config::MAX_EVENTS;
 pub use config::MAX_KIND;
 pub use config::MAX_WINDOW;
@@ -20,3 +22,4 @@ pub use marks::OPENED;
 pub use marks::RESTARTED;
 pub use reference::REFERENCE_HELD;
 pub use reference::REFERENCE_UNIT;
+pub use stopped::STOPPED;

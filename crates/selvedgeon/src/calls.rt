@@ -24,11 +24,12 @@ pub extern "C" fn selvedgeon_check(
     r_right: u8,
     min: u32,
     value: u32,
+    severity: u8,
     trace: &[u32],
     rows: &mut [u32],
     words: &mut [u64],
 ) -> u32
-    ensures { λ answer. ⌜ CheckAnswer (configOf kind n «p_left» «p_right» «q_left» «q_right» «r_left» «r_right» min value) (now (trace .entry)) (now (rows .entry)) (now (words .entry)) (now (rows .exit)) (now (words .exit)) answer ⌝ }
+    ensures { λ answer. ⌜ CheckAnswer (configOf kind n «p_left» «p_right» «q_left» «q_right» «r_left» «r_right» min value severity) (now (trace .entry)) (now (rows .entry)) (now (words .entry)) (now (rows .exit)) (now (words .exit)) answer ⌝ }
 {
     let config = config_of(
         kind,
@@ -41,6 +42,7 @@ pub extern "C" fn selvedgeon_check(
         r_right,
         min,
         value,
+        severity,
     );
     full_check(config, trace, rows, words)
 }
@@ -59,6 +61,7 @@ pub extern "C" fn selvedgeon_recheck(
     r_right: u8,
     min: u32,
     value: u32,
+    severity: u8,
     trace: &[u32],
     rows: &mut [u32],
     words: &mut [u64],
@@ -66,7 +69,7 @@ pub extern "C" fn selvedgeon_recheck(
     b: u64,
     answer: &mut [i32],
 ) -> u32
-    ensures { λ refusal. ⌜ HostRecheck (configOf kind n «p_left» «p_right» «q_left» «q_right» «r_left» «r_right» min value) (now (trace .entry)) (now (rows .entry)) (now (words .entry)) a b (now (answer .entry)) (now (rows .exit)) (now (words .exit)) (now (answer .exit)) refusal ⌝ }
+    ensures { λ refusal. ⌜ HostRecheck (configOf kind n «p_left» «p_right» «q_left» «q_right» «r_left» «r_right» min value severity) (now (trace .entry)) (now (rows .entry)) (now (words .entry)) a b (now (answer .entry)) (now (rows .exit)) (now (words .exit)) (now (answer .exit)) refusal ⌝ }
 {
     let config = config_of(
         kind,
@@ -79,6 +82,7 @@ pub extern "C" fn selvedgeon_recheck(
         r_right,
         min,
         value,
+        severity,
     );
     recheck_into(config, trace, rows, words, a, b, answer)
 }
@@ -106,10 +110,11 @@ pub extern "C" fn selvedgeon_failures(
     r_right: u8,
     min: u32,
     value: u32,
+    severity: u8,
     trace: &[u32],
     list: &mut [u32],
 ) -> u64
-    ensures { λ answer. ⌜ ListAnswer (configOf kind n «p_left» «p_right» «q_left» «q_right» «r_left» «r_right» min value) (now (trace .entry)) (now (list .entry)) (now (list .exit)) (answer / 4294967296) (answer % 4294967296) ⌝ }
+    ensures { λ answer. ⌜ ListAnswer (configOf kind n «p_left» «p_right» «q_left» «q_right» «r_left» «r_right» min value severity) (now (trace .entry)) (now (list .entry)) (now (list .exit)) (answer / 4294967296) (answer % 4294967296) ⌝ }
 {
     let config = config_of(
         kind,
@@ -122,6 +127,7 @@ pub extern "C" fn selvedgeon_failures(
         r_right,
         min,
         value,
+        severity,
     );
     packed_failures(config, trace, list)
 }

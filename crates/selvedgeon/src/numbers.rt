@@ -21,9 +21,10 @@ pub extern "C" fn selvedgeon_open_count(
     r_right: u8,
     min: u32,
     value: u32,
+    severity: u8,
     word: u64,
 ) -> u32
-    ensures { λ answer. ⌜ CountAnswer (configOf kind n «p_left» «p_right» «q_left» «q_right» «r_left» «r_right» min value) word (answer / 256) (answer % 256) ⌝ }
+    ensures { λ answer. ⌜ CountAnswer (configOf kind n «p_left» «p_right» «q_left» «q_right» «r_left» «r_right» min value severity) word (answer / 256) (answer % 256) ⌝ }
 {
     let config = config_of(
         kind,
@@ -36,6 +37,7 @@ pub extern "C" fn selvedgeon_open_count(
         r_right,
         min,
         value,
+        severity,
     );
     packed_open_count(config, word)
 }

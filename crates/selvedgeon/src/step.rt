@@ -21,13 +21,14 @@ pub extern "C" fn selvedgeon_step(
     r_right: u8,
     min: u32,
     value: u32,
+    severity: u8,
     reset: u32,
     p: u32,
     q: u32,
     r: u32,
     word: &mut [u8],
 ) -> u32
-    ensures { λ answer. ⌜ ByteStep (configOf kind n «p_left» «p_right» «q_left» «q_right» «r_left» «r_right» min value) (record { samples = reset ∷ p ∷ q ∷ r ∷ [] }) (now (word .entry)) (now (word .exit)) answer ⌝ }
+    ensures { λ answer. ⌜ ByteStep (configOf kind n «p_left» «p_right» «q_left» «q_right» «r_left» «r_right» min value severity) (record { samples = reset ∷ p ∷ q ∷ r ∷ [] }) (now (word .entry)) (now (word .exit)) answer ⌝ }
 {
     let config = config_of(
         kind,
@@ -40,6 +41,7 @@ pub extern "C" fn selvedgeon_step(
         r_right,
         min,
         value,
+        severity,
     );
     let samples = [reset, p, q, r];
     step_bytes(config, Frame { samples }, word)

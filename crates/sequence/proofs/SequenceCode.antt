@@ -17,11 +17,11 @@ use Rattle.rules.specs.Config.Family.{sequence}
 use Rattle.rules.specs.Frame.{P}
 use Rattle.rules.specs.Rules.{checkMarks, rowOf}
 use Rattle.rules.specs.Step.{startsAttempt, attempt, attemptFails, stepMarksOf, stepOpenOf, StepsTo}
-use Rattle.rules.specs.Possible.{possibleOf, possible}
+use Rattle.rules.specs.Possible.{possibleOf, goingPossible}
 use Rattle.rules.proofs.Good.{sequence-config, possible-are}
 
 -- what the code asks of n and the word
-pub fits : (c : Config) (w : ℕ) → (Good c) × (family (c .kind) ≡ sequence) × (T (possible c w))
+pub fits : (c : Config) (w : ℕ) → (Good c) × (family (c .kind) ≡ sequence) × (T (goingPossible c w))
     → (minEvents ≤ c .n) × (c .n ≤ maxEvents) × (w < 2 ^ (c .n - 1))
 unfolding possibleOf
 fits c w h =

@@ -13,15 +13,15 @@ ghost use mathlib.Core.Bool.{not, _&&_};
 ghost use Prim.Native.Nat.{ℕ, suc, _+_, _-_, _*_, _^_, _≤_, _<_};
 ghost use lib.Dec.{T};
 ghost use Rattle.bits.specs.Bits.{toBit, bit, some, number};
-ghost use Rattle.rules.specs.Config.{Good, family};
+ghost use Rattle.rules.specs.Config.{Good, family, GoesOn};
 ghost use Rattle.rules.specs.Config.Family.{sequence};
 ghost use Rattle.rules.specs.Frame.{P};
-ghost use Rattle.rules.specs.Possible.{possible};
+ghost use Rattle.rules.specs.Possible.{goingPossible, possible};
 ghost use Rattle.rules.specs.Rules.{rowOf, checkMarks};
 ghost use Rattle.rules.specs.Step.{StepsTo, Steps};
 
 fn sequence_step(c: Config, word: u64, frame: Frame) -> Outcome
-    requires { ⌜ (Good c) × (family (c .kind) ≡ sequence) × (T (possible c word)) ⌝ }
+    requires { ⌜ (Good c) × (family (c .kind) ≡ sequence) × (T (goingPossible c word)) ⌝ }
     ensures { λ r. ⌜ StepsTo sequence c word frame (r .row) (r .word) ⌝ }
 {
     let n = c.n;
@@ -51,7 +51,7 @@ fn sequence_step(c: Config, word: u64, frame: Frame) -> Outcome
 
 // The step in any cycle: a reset ends everything.
 pub fn sequence_cycle(c: Config, word: u64, frame: Frame) -> Outcome
-    requires { ⌜ (Good c) × (family (c .kind) ≡ sequence) × (T (possible c word)) ⌝ }
+    requires { ⌜ (Good c) × (GoesOn sequence c) × (T (possible c word)) ⌝ }
     ensures { λ r. ⌜ Steps c word frame (r .row) (r .word) ⌝ }
 {
     if !out_of_reset(frame) {

@@ -7,7 +7,7 @@ use trace::frame_at;
 use trace::kept_at_end;
 ghost use mathlib.Core.Bool.{false};
 ghost use mathlib.Core.Path.{_≡_};
-ghost use Rattle.rules.specs.Config.{family};
+ghost use Rattle.rules.specs.Config.{GoesOn};
 ghost use Rattle.rules.specs.Config.Family.{sequence};
 ghost use Rattle.trace.specs.Stretches.{Runnable, Ran};
 
@@ -19,7 +19,7 @@ pub fn fill_sequence(
     words: &mut [u64],
     s: Stretch,
 ) -> Reached
-    requires { ⌜ (Runnable c (now trace) (now rows) (now words) s) × (family (c .kind) ≡ sequence) × (s .stops ≡ false) ⌝ }
+    requires { ⌜ (Runnable c (now trace) (now rows) (now words) s) × (GoesOn sequence c) × (s .stops ≡ false) ⌝ }
     ensures { λ r. ⌜ Ran c (now (trace .entry)) (now (rows .entry)) (now (words .entry)) s (now (rows .exit)) (now (words .exit)) r ⌝ }
 {
     let from = s.from;

@@ -6,7 +6,7 @@ use trace::Stretch;
 use trace::frame_at;
 ghost use mathlib.Core.Bool.{true};
 ghost use mathlib.Core.Path.{_≡_};
-ghost use Rattle.rules.specs.Config.{family};
+ghost use Rattle.rules.specs.Config.{GoesOn};
 ghost use Rattle.rules.specs.Config.Family.{sequence};
 ghost use Rattle.trace.specs.Stretches.{Runnable, Ran};
 
@@ -18,7 +18,7 @@ pub fn seek_sequence(
     words: &mut [u64],
     s: Stretch,
 ) -> Reached
-    requires { ⌜ (Runnable c (now trace) (now rows) (now words) s) × (family (c .kind) ≡ sequence) × (s .stops ≡ true) ⌝ }
+    requires { ⌜ (Runnable c (now trace) (now rows) (now words) s) × (GoesOn sequence c) × (s .stops ≡ true) ⌝ }
     ensures { λ r. ⌜ Ran c (now (trace .entry)) (now (rows .entry)) (now (words .entry)) s (now (rows .exit)) (now (words .exit)) r ⌝ }
 {
     let from = s.from;

@@ -13,16 +13,16 @@ ghost use mathlib.Core.Bool.{true, cond};
 ghost use mathlib.Core.Path.{_≡_};
 ghost use Prim.Native.Nat.{_+_, _^_, _<_, _≤_};
 ghost use lib.Dec.{T, eqb};
-ghost use Rattle.rules.specs.Config.{Good, family};
+ghost use Rattle.rules.specs.Config.{Good, family, GoesOn};
 ghost use Rattle.rules.specs.Config.Family.{stability};
 ghost use Rattle.rules.specs.Frame.{up, P};
-ghost use Rattle.rules.specs.Possible.{possible};
+ghost use Rattle.rules.specs.Possible.{goingPossible, possible};
 ghost use Rattle.rules.specs.Step.{StepsTo, Steps};
 ghost use Rattle.rules.specs.Trigger.{withReference};
 
 // The open word is the number of cycles left to s+max, this one included, with the reference above it.
 fn stability_step(c: Config, word: u64, frame: Frame) -> Outcome
-    requires { ⌜ (Good c) × (family (c .kind) ≡ stability) × (T (possible c word)) × (up frame ≡ true) ⌝ }
+    requires { ⌜ (Good c) × (family (c .kind) ≡ stability) × (T (goingPossible c word)) × (up frame ≡ true) ⌝ }
     ensures { λ r. ⌜ StepsTo stability c word frame (r .row) (r .word) ⌝ }
 {
     let max = c.n as u64;
@@ -56,7 +56,7 @@ fn first_word(left: u64, tested: bool, tracked: u32) -> u64
 
 // The step of a window that has a reference, which is compared to its end.
 fn compared_step(c: Config, word: u64, tracked: u32, frame: Frame) -> Outcome
-    requires { ⌜ (Good c) × (family (c .kind) ≡ stability) × (T (possible c word)) × (tracked ≡ P c frame) × (2 ^ 48 ≤ word) × (up frame ≡ true) ⌝ }
+    requires { ⌜ (Good c) × (family (c .kind) ≡ stability) × (T (goingPossible c word)) × (tracked ≡ P c frame) × (2 ^ 48 ≤ word) × (up frame ≡ true) ⌝ }
     ensures { λ r. ⌜ StepsTo stability c word frame (r .row) (r .word) ⌝ }
 {
     // The word is so many times the unit, and the cycles left.
@@ -75,7 +75,7 @@ fn compared_step(c: Config, word: u64, tracked: u32, frame: Frame) -> Outcome
 
 // The step in any cycle: a reset ends everything.
 pub fn stability_cycle(c: Config, word: u64, frame: Frame) -> Outcome
-    requires { ⌜ (Good c) × (family (c .kind) ≡ stability) × (T (possible c word)) ⌝ }
+    requires { ⌜ (Good c) × (GoesOn stability c) × (T (possible c word)) ⌝ }
     ensures { λ r. ⌜ Steps c word frame (r .row) (r .word) ⌝ }
 {
     if !out_of_reset(frame) {

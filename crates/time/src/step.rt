@@ -8,7 +8,7 @@ use rules::OPENED;
 use rules::RESTARTED;
 ghost use mathlib.Core.Path.{_≡_};
 ghost use lib.Dec.{T};
-ghost use Rattle.rules.specs.Config.{Good, family};
+ghost use Rattle.rules.specs.Config.{Good, family, GoesOn};
 ghost use Rattle.rules.specs.Config.Family.{time};
 ghost use Rattle.rules.specs.Possible.{possible};
 ghost use Rattle.rules.specs.Step.{StepsTo, Steps};
@@ -50,7 +50,7 @@ fn time_step(c: Config, word: u64, frame: Frame) -> Outcome
 
 // The step in any cycle: a reset ends everything.
 pub fn time_cycle(c: Config, word: u64, frame: Frame) -> Outcome
-    requires { ⌜ (Good c) × (family (c .kind) ≡ time) × (T (possible c word)) ⌝ }
+    requires { ⌜ (Good c) × (GoesOn time c) × (T (possible c word)) ⌝ }
     ensures { λ r. ⌜ Steps c word frame (r .row) (r .word) ⌝ }
 {
     if !out_of_reset(frame) {

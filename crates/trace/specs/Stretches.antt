@@ -3,12 +3,13 @@
 -- Nothing here names a kind. Assumes nothing.
 use Prim.Native.Nat.{ℕ, zero, suc, _+_, _≤_, _<_}
 use mathlib.Core.Path.{_≡_}
-use mathlib.Core.Bool.{true, cond}
+use mathlib.Core.Bool.{Bool, true, cond}
 use mathlib.Core.List.{List}
 use lib.Dec.{T, ltb}
 use lib.ListN.{length, getD}
 use Rattle.rules.specs.declared.config.Config.{Config}
 use Rattle.rules.specs.Config.{Good}
+use Rattle.rules.specs.Rules.{stoppedWord}
 use Rattle.rules.specs.Step.{stepRow, stepWord}
 use Rattle.rules.specs.Possible.{possible}
 use Rattle.trace.specs.declared.stretch.Stretch.{Stretch}
@@ -55,3 +56,23 @@ pub record Running (c : Config) (trace rows words : List ℕ) (s : Stretch) (row
 pub record Ran (c : Config) (trace rows words : List ℕ) (s : Stretch) (rows′ words′ : List ℕ) (r : Reached) : Type 0 where
   pub come : Running c trace rows words s rows′ words′ r
   pub stopped : r .at < s .to → (s .stops ≡ true) × (r .word ≡ r .kept)
+
+-- The run of a fatal checker is over, or it has just failed: then its word is 2^63.
+pub record Watched (c : Config) (trace rows words : List ℕ) (s : Stretch) (rows′ words′ : List ℕ) (r : Reached) : Type 0 where
+  pub come : Running c trace rows words s rows′ words′ r
+  pub ended : (r .word ≡ stoppedWord → ⊥) → r .at < s .to → (s .stops ≡ true) × (r .word ≡ r .kept)
+
+-- A run that has failed, from entry `start` on, has come to an entry: it stores row 0 and word 2^63, whatever the frames are. `before` is the word kept before `start`.
+pub record Staying (start to : ℕ) (stops : Bool) (before : ℕ) (rows words rows′ words′ : List ℕ) (at kept : ℕ) : Type 0 where
+  pub low : start ≤ at
+  pub high : at ≤ to
+  pub kept-is : kept ≡ keptFrom words start before at
+  pub rows-are : Written (λ k. 0) start at rows rows′
+  pub words-are : Written (λ k. stoppedWord) start at words words′
+  pub going-on : stops ≡ true → (k : ℕ) → start ≤ k → k < at → stoppedWord ≡ keptFrom words start before k → ⊥
+
+-- It is over: at the end of the stretch, or at the first entry where it had to stop.
+pub record Stayed (s : Stretch) (rows words rows′ words′ : List ℕ) (r : Reached) : Type 0 where
+  pub come : Staying (s .at) (s .to) (s .stops) (s .kept) rows words rows′ words′ (r .at) (r .kept)
+  pub word-is : r .word ≡ stoppedWord
+  pub ended : r .at < s .to → (s .stops ≡ true) × (r .kept ≡ stoppedWord)

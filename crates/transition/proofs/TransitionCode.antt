@@ -15,12 +15,12 @@ use Rattle.rules.specs.Config.Family.{transition}
 use Rattle.rules.specs.Frame.{P, Q, R}
 use Rattle.rules.specs.Rules.{checkMarks, rowOf}
 use Rattle.rules.specs.Step.{pends, stepMarksOf, stepOpenOf}
-use Rattle.rules.specs.Possible.{possibleOf, possible}
+use Rattle.rules.specs.Possible.{possibleOf, goingPossible}
 use Rattle.rules.proofs.Good.{possible-are}
 
 module _ (c : Config) (w : ℕ) (f : Frame) where
   -- a possible word of kind 6 is 0 or at least 2^32, so 2^32 added to the test compares as 2^32 taken off the word
-  stored-part : family (c .kind) ≡ transition → T (possible c w) → (x : ℕ)
+  stored-part : family (c .kind) ≡ transition → T (goingPossible c w) → (x : ℕ)
       → (not (eqb w 0) && not (eqb (x + 2 ^ 32) w)) ≡ (ltb 0 w && not (eqb x (w - 2 ^ 32)))
   unfolding possibleOf
   stored-part fam h x = ⊎-elim (λ z. rw (eqb→eq w 0 z)) some-stored (or-cases (eqb w 0) (leb (2 ^ 32) w && ltb (w - 2 ^ 32) (2 ^ width (c .p))) asked)
@@ -38,7 +38,7 @@ module _ (c : Config) (w : ℕ) (f : Frame) where
           simp (ne-eqb w 0 (λ e. omega arith), lt-ltb 0 w (omega arith), same)
 
   -- kind 6, from the ports' values
-  module _ (fam : family (c .kind) ≡ transition) (h : T (possible c w)) (test start : ℕ) (p : test ≡ P c f) (q : start ≡ Q c f) where
+  module _ (fam : family (c .kind) ≡ transition) (h : T (goingPossible c w)) (test start : ℕ) (p : test ≡ P c f) (q : start ≡ Q c f) where
     pub transition-row : (row : ℕ)
         → row ≡ rowOf (checkMarks (not (eqb w 0) && not (eqb (test + 2 ^ 32) w)) (eqb test start)) → row ≡ rowOf (stepMarksOf c w f transition)
     unfolding stepMarksOf pends

@@ -7,15 +7,15 @@ use rules::Frame;
 ghost use mathlib.Core.Path.{_≡_};
 ghost use mathlib.Core.Bool.{true};
 ghost use lib.Dec.{T};
-ghost use Rattle.rules.specs.Config.{Good, family};
+ghost use Rattle.rules.specs.Config.{Good, family, GoesOn};
 ghost use Rattle.rules.specs.Config.Family.{transition};
-ghost use Rattle.rules.specs.Possible.{possible};
+ghost use Rattle.rules.specs.Possible.{goingPossible, possible};
 ghost use Rattle.rules.specs.Step.{StepsTo, Steps};
 ghost use Rattle.transition.specs.Ports.{Holds, Descends};
 
 // The open word is 0, or 2^32 plus the next state that was stored.
 fn transition_step(word: u64, values: Values) -> Outcome
-    ensures { λ r. ⌜ ((c : Config) (frame : Frame) → family (c .kind) ≡ transition → T (possible c word) → Holds c frame values → StepsTo transition c word frame (r .row) (r .word)) ⌝ }
+    ensures { λ r. ⌜ ((c : Config) (frame : Frame) → family (c .kind) ≡ transition → T (goingPossible c word) → Holds c frame values → StepsTo transition c word frame (r .row) (r .word)) ⌝ }
 {
     let test = values.test;
     let starts = test == values.start_state;
@@ -34,7 +34,7 @@ fn transition_step(word: u64, values: Values) -> Outcome
 
 // The step in any cycle: a reset ends everything.
 pub fn transition_cycle(c: Config, word: u64, frame: Frame) -> Outcome
-    requires { ⌜ (Good c) × (family (c .kind) ≡ transition) × (T (possible c word)) ⌝ }
+    requires { ⌜ (Good c) × (GoesOn transition c) × (T (possible c word)) ⌝ }
     ensures { λ r. ⌜ Steps c word frame (r .row) (r .word) ⌝ }
 {
     if !out_of_reset(frame) {
@@ -45,7 +45,7 @@ pub fn transition_cycle(c: Config, word: u64, frame: Frame) -> Outcome
 
 // The same for ports that are all declared descending, as most are: then no direction is looked at.
 pub fn descending_cycle(c: Config, word: u64, frame: Frame) -> Outcome
-    requires { ⌜ (Good c) × (family (c .kind) ≡ transition) × (T (possible c word)) × (Descends c) ⌝ }
+    requires { ⌜ (Good c) × (GoesOn transition c) × (T (possible c word)) × (Descends c) ⌝ }
     ensures { λ r. ⌜ Steps c word frame (r .row) (r .word) ⌝ }
 {
     if !out_of_reset(frame) {

@@ -11,7 +11,7 @@ ghost use mathlib.Core.Bool.{true, not, _&&_};
 ghost use mathlib.Core.Path.{_≡_};
 ghost use Prim.Native.Nat.{_-_};
 ghost use lib.Dec.{T, eqb, leb};
-ghost use Rattle.rules.specs.Config.{Good, family};
+ghost use Rattle.rules.specs.Config.{Good, family, GoesOn};
 ghost use Rattle.rules.specs.Config.Family.{value};
 ghost use Rattle.rules.specs.Frame.{up, enabled, P};
 ghost use Rattle.rules.specs.Possible.{possible};
@@ -53,7 +53,7 @@ fn value_row(c: Config, e: Expected, opened: bool, left: u64, frame: Frame) -> u
 
 // The step in any cycle: a reset ends everything.
 pub fn value_cycle(c: Config, e: Expected, word: u64, frame: Frame) -> Outcome
-    requires { ⌜ (Good c) × (family (c .kind) ≡ value) × (T (possible c word)) × (Expects c e) ⌝ }
+    requires { ⌜ (Good c) × (GoesOn value c) × (T (possible c word)) × (Expects c e) ⌝ }
     ensures { λ r. ⌜ Steps c word frame (r .row) (r .word) ⌝ }
 {
     if !out_of_reset(frame) {

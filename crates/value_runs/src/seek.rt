@@ -7,7 +7,7 @@ use trace::frame_at;
 use value::value_cycle;
 ghost use mathlib.Core.Bool.{true};
 ghost use mathlib.Core.Path.{_≡_};
-ghost use Rattle.rules.specs.Config.{family};
+ghost use Rattle.rules.specs.Config.{GoesOn};
 ghost use Rattle.rules.specs.Config.Family.{value};
 ghost use Rattle.trace.specs.Stretches.{Runnable, Ran};
 
@@ -19,7 +19,7 @@ pub fn seek_value(
     words: &mut [u64],
     s: Stretch,
 ) -> Reached
-    requires { ⌜ (Runnable c (now trace) (now rows) (now words) s) × (family (c .kind) ≡ value) × (s .stops ≡ true) ⌝ }
+    requires { ⌜ (Runnable c (now trace) (now rows) (now words) s) × (GoesOn value c) × (s .stops ≡ true) ⌝ }
     ensures { λ r. ⌜ Ran c (now (trace .entry)) (now (rows .entry)) (now (words .entry)) s (now (rows .exit)) (now (words .exit)) r ⌝ }
 {
     let e = expected_wires(c);

@@ -18,6 +18,7 @@ pub fn sequence(kind: u8, n: u32, p: Range) -> Config {
         r: range(0, 0),
         min: 0,
         value: 0,
+        severity: 0,
     }
 }
 
@@ -32,7 +33,7 @@ pub fn six(p: [u32; 6], q: [u32; 6]) -> [u32; 24] {
 }
 
 // Six cycles with their reset words.
-fn six_with(resets: [u32; 6], p: [u32; 6], q: [u32; 6]) -> [u32; 24] {
+pub fn six_with(resets: [u32; 6], p: [u32; 6], q: [u32; 6]) -> [u32; 24] {
     [
         resets[0],
         p[0],
@@ -76,7 +77,7 @@ pub fn case_f() -> [u32; 3] {
 }
 
 // The first columns of a line: the case and the checker, and the name of the first samples.
-fn begin(line: &[u8]) {
+pub fn begin(line: &[u8]) {
     report::text(b"| ");
     report::text(line);
 }
@@ -91,7 +92,7 @@ fn end(c: Config, trace: &[u32], rows: &mut [u32], words: &mut [u64]) {
     report::text(b" |\n");
 }
 
-fn end_of_six(c: Config, trace: [u32; 24]) {
+pub fn end_of_six(c: Config, trace: [u32; 24]) {
     let mut rows = [0u32; 6];
     let mut words = [0u64; 6];
     end(c, &trace, &mut rows, &mut words);
@@ -103,7 +104,7 @@ fn end_of_three(c: Config, trace: [u32; 12]) {
     end(c, &trace, &mut rows, &mut words);
 }
 
-fn events(line: &[u8], c: Config, p: [u32; 6]) {
+pub fn events(line: &[u8], c: Config, p: [u32; 6]) {
     begin(line);
     report::spaced_numbers(&p);
     end_of_six(c, six(p, [0; 6]));
@@ -124,7 +125,7 @@ pub fn sequences() {
     end_of_three(sequence(0, 3, range(2, 0)), three(f, [0; 3]));
 }
 
-fn window(line: &[u8], c: Config, start: [u32; 6], test: [u32; 6]) {
+pub fn window(line: &[u8], c: Config, start: [u32; 6], test: [u32; 6]) {
     begin(line);
     report::spaced_numbers(&start);
     report::text(b", test");
@@ -197,6 +198,7 @@ pub fn transitions() {
         r: range(2, 0),
         min: 0,
         value: 0,
+        severity: 0,
     };
     let t = [3, 4, 3, 0, 3];
     let s = [3u32; 5];
@@ -216,7 +218,7 @@ pub fn transitions() {
 }
 
 // A checker of kind 7 or 8 on P, with the trigger on wire 0 of Q.
-fn after_trigger(kind: u8, min: u32, max: u32, value: u32, p: Range) -> Config {
+pub fn after_trigger(kind: u8, min: u32, max: u32, value: u32, p: Range) -> Config {
     Config {
         kind,
         n: max,
@@ -225,10 +227,11 @@ fn after_trigger(kind: u8, min: u32, max: u32, value: u32, p: Range) -> Config {
         r: range(0, 0),
         min,
         value,
+        severity: 0,
     }
 }
 
-fn tracked(line: &[u8], c: Config, enables: [u32; 6], triggers: [u32; 6], p: [u32; 6]) {
+pub fn tracked(line: &[u8], c: Config, enables: [u32; 6], triggers: [u32; 6], p: [u32; 6]) {
     begin(line);
     report::spaced_numbers(&enables);
     report::text(b", trigger");

@@ -1,6 +1,8 @@
-// The whiteboard table: its twelve cases, each checked from its samples, the examples below it, and six cases of kinds 7 and 8.
+// The whiteboard table: its twelve cases, each checked from its samples, the examples below it, six cases of kinds 7 and 8, and four of
+// fatal checkers.
 mod below;
 mod cases;
+mod fatal;
 
 fn main() {
     cases::sequences();
@@ -10,4 +12,5 @@ fn main() {
     below::sequence_recheck();
     below::window_recheck();
     cases::after_triggers();
+    fatal::fatals();
 }

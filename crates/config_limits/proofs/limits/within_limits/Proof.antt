@@ -1,5 +1,5 @@
--- `config_limits::limits::within_limits` meets its contract: it asks for both. Assumes nothing.
-use Rattle.rules.specs.Config.{limits}
+-- `config_limits::limits::within_limits` meets its contract: it asks for all three. Assumes nothing.
+use Rattle.rules.specs.Config.{severityFits, limits}
 use borrow.Author.Needs.{needs}
 use Rattle.config_limits.proofs.limits.within_limits.Statement.{statement}
 use Rattle.config_limits.proofs.limits.within_limits.Tie as tie
@@ -11,8 +11,8 @@ min-fits-requires : tie.Need-min-fits-requires
 min-fits-requires c κs = search needs
 
 returns : tie.Need-returns
-unfolding limits
-returns c = rw (c .before .n-fits .ensures, c .min-fits .ensures)
+unfolding limits severityFits
+returns c = rw (c .before .before .n-fits .ensures, c .before .min-fits .ensures)
 
 pub within-limits-spec : {M : Type 1} → statement M
 within-limits-spec = tie.close (tie.spec n-fits-requires min-fits-requires returns)

@@ -10,7 +10,7 @@ expected-wires-requires c κs = search needs
 
 value-cycle-requires : tie.Need-value-cycle-requires
 value-cycle-requires c κs =
-    let s = c .before .before .before in (s .pre .0, family-value (s .args .c .kind) (c .before .if1 .taken), s .pre .1, c .expected-wires .ensures)
+    let s = c .before .before .before in (s .pre .0, (family-value (s .args .c .kind) (c .before .if1 .taken), s .pre .1), s .pre .2, c .expected-wires .ensures)
 
 returns : tie.Need-returns
 returns c = search needs
@@ -18,7 +18,7 @@ returns c = search needs
 stability-cycle-requires : tie.Need-stability-cycle-requires
 stability-cycle-requires c κs =
     let s = c .before .before in
-    (s .pre .0, family-stability (s .args .c .kind) (omega (arith, c .if1 .left, kind-low (s .args .c) (s .pre .0), s .pre .2)), s .pre .1)
+    (s .pre .0, (family-stability (s .args .c .kind) (omega (arith, c .if1 .left, kind-low (s .args .c) (s .pre .0), s .pre .3)), s .pre .1), s .pre .2)
 
 returns-2 : tie.Need-returns-2
 returns-2 c = search needs

@@ -13,16 +13,16 @@ out-of-reset-requires c κs = search needs
 returns : tie.Need-returns
 returns c =
     let a = c .before .before .args in
-    steps-in-reset (a .c) (a .word) (a .frame) (sym (c .before .out-of-reset .ensures) ∙ not-true _ (c .if1 .taken))
+    steps-in-reset (a .c) (a .word) (a .frame) (c .before .before .pre .1 .1) (sym (c .before .out-of-reset .ensures) ∙ not-true _ (c .if1 .taken))
 
 time-step-requires : tie.Need-time-step-requires
-time-step-requires c κs = let at = c .before .before in (at .pre .0, at .pre .1)
+time-step-requires c κs = let at = c .before .before in (at .pre .0, at .pre .1 .0)
 
 returns-2 : tie.Need-returns-2
 returns-2 c =
     let at = c .before .before .before in
-    steps-of (at .args .c) (at .args .word) (at .args .frame) time (c .time-step .result .row) (c .time-step .result .word)
-    (sym (c .before .before .out-of-reset .ensures) ∙ not-false _ (c .before .if1 .left)) (at .pre .1) (c .time-step .ensures)
+    steps-of (at .args .c) (at .args .word) (at .args .frame) (at .pre .1 .1) time (c .time-step .result .row) (c .time-step .result .word)
+    (sym (c .before .before .out-of-reset .ensures) ∙ not-false _ (c .before .if1 .left)) (at .pre .1 .0) (c .time-step .ensures)
 
 pub time-cycle-spec : {M : Type 1} → statement M
 time-cycle-spec =

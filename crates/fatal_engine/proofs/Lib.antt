@@ -1,0 +1,2 @@
+-- A run of a fatal checker, of what the loops leave.
+pub mod Failed

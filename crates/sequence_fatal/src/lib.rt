@@ -1,0 +1,6 @@
+// Kinds 0 to 2: runs of a stretch, of a fatal checker.
+mod fill;
+mod run;
+mod seek;
+
+pub use run::fatal_sequence;

@@ -1,0 +1,6 @@
+// Kinds 3 to 5: runs of a stretch, of a fatal checker.
+mod fill;
+mod run;
+mod seek;
+
+pub use run::fatal_time;

@@ -1,0 +1,47 @@
+// Runs of kinds 3 to 5 of a fatal checker that stop where they meet the kept words.
+use fatal::fails;
+use rules::Config;
+use rules::STOPPED;
+use time::time_cycle;
+use trace::Reached;
+use trace::Stretch;
+use trace::frame_at;
+ghost use mathlib.Core.Bool.{true};
+ghost use mathlib.Core.Path.{_≡_};
+ghost use Rattle.rules.specs.Config.{GoesOn, fatally};
+ghost use Rattle.rules.specs.Config.Family.{time};
+ghost use Rattle.rules.specs.Rules.{stoppedWord};
+ghost use Rattle.trace.specs.Stretches.{Runnable, Watched};
+
+// Runs a stretch up to the first entry where the word is the kept one, or over the first row with mark 1 or 2, where the word is 2^63.
+pub fn seek(c: Config, trace: &[u32], rows: &mut [u32], words: &mut [u64], s: Stretch) -> Reached
+    requires { ⌜ (Runnable (fatally c) (now trace) (now rows) (now words) s) × (GoesOn time c) × (s .word ≡ stoppedWord → ⊥) × (s .stops ≡ true) ⌝ }
+    ensures { λ r. ⌜ Watched (fatally c) (now (trace .entry)) (now (rows .entry)) (now (words .entry)) s (now (rows .exit)) (now (words .exit)) r ⌝ }
+{
+    let from = s.from;
+    let to = s.to;
+    let mut at = s.at;
+    let mut word = s.word;
+    let mut kept = s.kept;
+    while at < to {
+        if word == kept {
+            return Reached { at, word, kept };
+        }
+        let next = time_cycle(c, word, frame_at(trace, from + at));
+        kept = words[at];
+        rows[at] = next.row;
+        if fails(next.row) {
+            words[at] = STOPPED;
+            let behind = at + 1;
+            return Reached {
+                at: behind,
+                word: STOPPED,
+                kept,
+            };
+        }
+        word = next.word;
+        words[at] = word;
+        at += 1;
+    }
+    Reached { at, word, kept }
+}
