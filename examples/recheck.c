@@ -65,6 +65,15 @@ static void print_record(const uint32_t *trace, const uint32_t *rows, const uint
     }
 }
 
+/* a trace of these samples on P, out of reset */
+static void sample(uint32_t *trace, const uint32_t *samples)
+{
+    for (int t = 0; t < CYCLES; t++) {
+        trace[4 * t] = 1; /* reset_n */
+        trace[4 * t + 1] = samples[t];
+    }
+}
+
 static void print_changes(const int32_t *answer)
 {
     printf("  stopped before cycle %" PRId32 "; changes of marks 1, 2, 4, 8, 16: %" PRId32 " %" PRId32 " %" PRId32
@@ -103,10 +112,7 @@ static void check_fatal(void)
     uint64_t words[CYCLES];
     int32_t answer[6];
 
-    for (int t = 0; t < CYCLES; t++) {
-        trace[4 * t] = 1; /* reset_n */
-        trace[4 * t + 1] = samples[t];
-    }
+    sample(trace, samples);
     uint32_t refusal = selvedgeon_check(FATAL_SEQUENCE, trace, 4 * CYCLES, rows, CYCLES, words, CYCLES);
     printf("fatal, full check: %s\n", refusal_in_words(refusal));
     print_record(trace, rows, words);
@@ -126,10 +132,7 @@ int main(void)
     uint64_t words[CYCLES];
     int32_t answer[6];
 
-    for (int t = 0; t < CYCLES; t++) {
-        trace[4 * t] = 1; /* reset_n */
-        trace[4 * t + 1] = samples[t];
-    }
+    sample(trace, samples);
     uint32_t refusal = selvedgeon_check(SEQUENCE, trace, 4 * CYCLES, rows, CYCLES, words, CYCLES);
     printf("full check: %s\n", refusal_in_words(refusal));
     print_record(trace, rows, words);
