@@ -1,8 +1,9 @@
 /*
  * A full check, an edit and a recheck, as a viewer does them: case A of the whiteboard table, a sequence of four events on
- * P [3:0], with cycle 2 changed from 10 to 2. Then a call that is refused. Then case N below the table: the value 6 is
- * expected on P [0:2] from 1 to 3 cycles after a trigger, and the failures are listed. Last, case E made fatal: it stops in
- * cycle 2, and an edit of that cycle lets it go on to the next failure.
+ * P [3:0], with cycle 2 changed from 10 to 2. Then a call that is refused, and one that is refused because the record it is
+ * given was spoiled. Then case N below the table: the value 6 is expected on P [0:2] from 1 to 3 cycles after a trigger, and
+ * the failures are listed. Last, case E made fatal: it stops in cycle 2, and an edit of that cycle lets it go on to the next
+ * failure.
  *
  *     sh build.sh          builds and runs this example
  */
@@ -32,7 +33,7 @@ static const char *refusal_in_words(uint32_t refusal)
     case SELVEDGEON_BAD_TRACE: return "the trace is no multiple of 4 words, or has more than 65,536 cycles";
     case SELVEDGEON_BAD_LENGTH: return "a lent slice has not the length that is due";
     case SELVEDGEON_BAD_RANGE: return "a is above b, or b above N";
-    case SELVEDGEON_BAD_WORD: return "the word to go on from is not possible";
+    case SELVEDGEON_BAD_WORD: return "an open word is not possible for this checker";
     case SELVEDGEON_LIST_FULL: return "the list is too short";
     case SELVEDGEON_TOO_MANY: return "more than 64 checkers";
     default: return "no refusal number";
@@ -118,7 +119,7 @@ static void check_fatal(void)
     print_record(trace, rows, words);
 
     trace[4 * 2 + 1] = 7;
-    refusal = selvedgeon_recheck(FATAL_SEQUENCE, trace, 4 * CYCLES, rows, CYCLES, words, CYCLES, 2, 3, answer, 6);
+    refusal = selvedgeon_recheck(FATAL_SEQUENCE, trace, 4 * CYCLES, rows, CYCLES, words, CYCLES, 2, 3, answer, 6) >> 32;
     printf("cycle 2 becomes 7, recheck of cycles 2 to 2: %s\n", refusal_in_words(refusal));
     print_record(trace, rows, words);
     print_changes(answer);
@@ -138,13 +139,18 @@ int main(void)
     print_record(trace, rows, words);
 
     trace[4 * 2 + 1] = 2;
-    refusal = selvedgeon_recheck(SEQUENCE, trace, 4 * CYCLES, rows, CYCLES, words, CYCLES, 2, 3, answer, 6);
+    refusal = selvedgeon_recheck(SEQUENCE, trace, 4 * CYCLES, rows, CYCLES, words, CYCLES, 2, 3, answer, 6) >> 32;
     printf("cycle 2 becomes 2, recheck of cycles 2 to 2: %s\n", refusal_in_words(refusal));
     print_record(trace, rows, words);
     print_changes(answer);
 
-    refusal = selvedgeon_recheck(SEQUENCE, trace, 4 * CYCLES, rows, CYCLES, words, CYCLES, 4, 3, answer, 6);
+    refusal = selvedgeon_recheck(SEQUENCE, trace, 4 * CYCLES, rows, CYCLES, words, CYCLES, 4, 3, answer, 6) >> 32;
     printf("recheck from 4 to 3: refused, %s\n", refusal_in_words(refusal));
+
+    words[4] = 8; /* at most three checks are open, in bits 0 to 2: no open word of this checker is above 7 */
+    uint64_t answered = selvedgeon_recheck(SEQUENCE, trace, 4 * CYCLES, rows, CYCLES, words, CYCLES, 2, 3, answer, 6);
+    printf("8 written over the open word of cycle 4, recheck of cycles 2 to 2: refused, %s: that of cycle %" PRIu32 "\n",
+           refusal_in_words(answered >> 32), (uint32_t)answered);
 
     check_value();
     check_fatal();

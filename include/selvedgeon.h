@@ -77,7 +77,7 @@ enum selvedgeon_refusal {
     SELVEDGEON_BAD_TRACE = 4,     /* the trace is no multiple of 4 words, or has more than 65,536 cycles */
     SELVEDGEON_BAD_LENGTH = 5,    /* another lent slice has not the length that is due */
     SELVEDGEON_BAD_RANGE = 6,     /* a is above b, or b above N */
-    SELVEDGEON_BAD_WORD = 7,      /* the word to go on from is not possible */
+    SELVEDGEON_BAD_WORD = 7,      /* the word to go on from is not possible; of a recheck: a kept word is not possible */
     SELVEDGEON_LIST_FULL = 8,     /* three words for each entry exceed the list */
     SELVEDGEON_TOO_MANY = 9       /* more than 64 checkers */
 };
@@ -123,12 +123,15 @@ uint32_t selvedgeon_check(uint8_t kind, uint32_t n, uint8_t p_left, uint8_t p_ri
 /*
  * The recheck of a record after an edit of the trace in cycles a to b-1: rows and words are those of the old trace, the
  * trace is the edited one.
- * Answers the refusal.
+ * Answers 2^32 times the refusal plus a cycle: with refusal 7 the lowest whose kept word is not possible, else 0. So 0 is
+ * done, and the refusal is in the upper half, which a 32-bit variable would lose.
  * Writes: rows and words of cycles a to e-1, where e, the cycle where the recheck stopped, is answer[0]; answer[1] to
  * answer[5] are by how much the counts of the marks 1, 2, 4, 8 and 16 changed.
- * Refusals: 1, 2, 3, 4; 5 where rows_len or words_len is not N or answer_len is not 6; 6; 7 for the word before cycle a.
+ * Refusals: 1, 2, 3, 4; 5 where rows_len or words_len is not N or answer_len is not 6; 6; 7 where any of the kept words is
+ * not possible, wherever a and b are. A record that selvedgeon_check or selvedgeon_recheck left for the same configuration
+ * is never refused with 7.
  */
-uint32_t selvedgeon_recheck(uint8_t kind, uint32_t n, uint8_t p_left, uint8_t p_right, uint8_t q_left, uint8_t q_right,
+uint64_t selvedgeon_recheck(uint8_t kind, uint32_t n, uint8_t p_left, uint8_t p_right, uint8_t q_left, uint8_t q_right,
                             uint8_t r_left, uint8_t r_right, uint32_t min, uint32_t value, uint8_t severity,
                             const uint32_t *trace, size_t trace_len, uint32_t *rows, size_t rows_len, uint64_t *words,
                             size_t words_len, uint64_t a, uint64_t b, int32_t *answer, size_t answer_len);

@@ -5,15 +5,11 @@
 #include <inttypes.h>
 #include <stdio.h>
 
+#include "checker.h"
 #include "selvedgeon.h"
 
 #define MOST 8
 #define STOP SELVEDGEON_STOPPED
-
-/* the eleven numbers of a configuration */
-#define NUMBERS(c) \
-    (c).kind, (c).n, (c).p.left, (c).p.right, (c).q.left, (c).q.right, (c).r.left, (c).r.right, (c).min, (c).value, \
-        (c).severity
 
 static int compared, failed;
 
@@ -118,7 +114,8 @@ static void recheck(const char *what, uint64_t a, uint64_t b, int32_t end, int32
 {
     const int32_t due[6] = {end, failures, 0, opened, closed, 0};
     int32_t answer[6];
-    expect(what, "refusal", 0, selvedgeon_recheck(NUMBERS(watch), trace, 4 * MOST, rows, MOST, words, MOST, a, b, answer, 6), 0);
+    expect(what, "refusal and cycle", 0,
+           selvedgeon_recheck(NUMBERS(watch), trace, 4 * MOST, rows, MOST, words, MOST, a, b, answer, 6), 0);
     for (int i = 0; i < 6; i++)
         expect(what, "answer", i, (uint64_t)answer[i], (uint64_t)due[i]);
 }

@@ -74,7 +74,7 @@ static void expect_recheck(struct selvedgeon_config c, int sign, enum outcome ou
     static const int32_t failures[] = {[PASSES] = 0, [FAILS_LAST] = 1, [FAILS_EACH] = 65535};
     const int32_t due[6] = {CYCLES, sign * failures[outcome], 0, sign, sign, 0};
     int32_t answer[6] = {0};
-    expect("recheck", c.kind, 0,
+    expect("refusal and cycle of a recheck", c.kind, 0,
            selvedgeon_recheck(NUMBERS(c, LONGEST), trace, 4 * CYCLES, rows, CYCLES, words, CYCLES, 0, 1, answer, 6), 0);
     for (int i = 0; i < 6; i++)
         expect("end and changes", c.kind, 0, (uint64_t)answer[i], (uint64_t)due[i]);
@@ -151,7 +151,7 @@ static void watched_for_50_000_cycles(void)
     for (int i = 0; i < 6; i++)
         expect("entry", c.kind, 0, list[i], entries[i]);
     trace[4 * 20000 + 2] = 1 << 9;
-    expect("recheck", c.kind, 20000,
+    expect("refusal and cycle of a recheck", c.kind, 20000,
            selvedgeon_recheck(NUMBERS(c, 50000), trace, 4 * CYCLES, rows, CYCLES, words, CYCLES, 20000, 20001, answer, 6), 0);
     for (int i = 0; i < 6; i++)
         expect("end and changes", c.kind, 20000, (uint64_t)answer[i], (uint64_t)due[i]);

@@ -4,7 +4,9 @@
 use crate::fatal;
 use crate::generate::{self, Failing, Random};
 use crate::host;
-use crate::rules::{self, Config, Edit, Record, LONGEST_WINDOW, MOST_CYCLES, STOPPED};
+use crate::records::{self, Sort, Words};
+use crate::rules::{self, Config, Edit, Record, Refusal, DONE, LONGEST_WINDOW, MOST_CYCLES, STOPPED};
+use crate::spoiled;
 use crate::tally::{Call, Tally, NO_KIND};
 use crate::windows;
 use std::fmt::Debug;
@@ -58,6 +60,9 @@ impl Longest {
 
 /// From this length on a window gets traces that are made for it: in others it would hardly ever close.
 const LONG_WINDOW: u32 = 300;
+
+/// From this length on a record is spoiled in more places.
+const LONG_RECORD: usize = 1000;
 
 pub struct Case<'a> {
     pub random: Random,
@@ -136,6 +141,19 @@ impl Case<'_> {
         }
     }
 
+    /// Of false and spoiled records more are long: their words may be tested in blocks.
+    fn recheck_cycles(&mut self, n: u32, sort: Sort) -> usize {
+        let long = match sort {
+            Sort::True | Sort::Another => 0,
+            Sort::False => 60,
+            Sort::Spoiled => 150,
+        };
+        if self.size == Size::Any && self.random.chance(long) {
+            return LONG_RECORD + self.random.below(4000);
+        }
+        self.cycles(n)
+    }
+
     /// A trace of so many cycles; where a long window fits in, most often one made for it.
     fn trace(&mut self, config: Config, cycles: usize) -> Vec<u32> {
         let random = &mut self.random;
@@ -209,7 +227,7 @@ pub fn step(case: &mut Case) -> Outcome {
     Ok(())
 }
 
-/// The word of a step, of an open count or before a recheck.
+/// The word of a step or of an open count, or that which a recheck goes on from or names.
 fn tally_word(tally: &mut Tally, config: Config, word: u64) {
     windows::tally_word(tally, config, word);
     fatal::tally_word(tally, config, word);
@@ -269,6 +287,11 @@ pub fn check(case: &mut Case) -> Outcome {
         .and_then(|()| same_entries("words", &words, &due_words))
         .map_err(context)?;
 
+    if due == 0 {
+        // §6: "records of a full check are never refused for this"
+        let at = case.random.below(cycles + 1) as u64;
+        compare_unaltered(&Edit { config, trace: &trace, a: at, b: at }, &rows, &words, DONE).map_err(context)?;
+    }
     let tally = &mut case.tally;
     tally.case(Call::Check, Some(config.kind), due);
     if due == 0 {
@@ -277,6 +300,18 @@ pub fn check(case: &mut Case) -> Outcome {
     tally.situation("check refused 65,537 cycles", due == 4 && case.size == Size::TooLong);
     tally.situation("trace of 65,536 cycles and one word more", due == 4 && case.size == Size::WordMore);
     Ok(())
+}
+
+/// A recheck that leaves rows and words as they are: it is refused, or a = b. In the latter case it tests each word, and then
+/// has nothing to do: "(before cycle 0 both are 0)", and elsewhere the word before a is the kept one.
+pub fn compare_unaltered(edit: &Edit, rows: &[u32], words: &[u64], due: Refusal) -> Outcome {
+    let (mut new_rows, mut new_words, mut answer) = (rows.to_vec(), words.to_vec(), [99; 6]);
+    let refusal = host::recheck(edit, &mut new_rows, &mut new_words, &mut answer)?;
+    same("refusal and named cycle of a recheck", refusal, due)?;
+    let answer_due = if due == DONE { [edit.b as i32, 0, 0, 0, 0, 0] } else { [99; 6] };
+    same_entries("e and changes of a recheck", &answer, &answer_due)?;
+    same_entries("rows that stay", &new_rows, rows)?;
+    same_entries("words that stay", &new_words, words)
 }
 
 fn tally_check(tally: &mut Tally, config: Config, trace: &[u32], record: &Record) {
@@ -341,36 +376,6 @@ fn edit_range(case: &mut Case, cycles: usize, stop: Option<usize>) -> (u64, u64)
     }
 }
 
-/// A true record made one that need not be: a few entries damaged, all of them random, some words impossible, or that of
-/// another trace; and in some, a fatal checker is stopped for a while, often to the cycle before a.
-fn false_record(random: &mut Random, config: Config, mut record: Record, a: u64) -> Record {
-    let cycles = record.rows.len();
-    match random.below(4) {
-        0 => {
-            for _ in 0..random.below(4).min(cycles) {
-                let (row, word) = (random.below(cycles), random.below(cycles));
-                record.rows[row] = random.word();
-                record.words[word] = any_word(random, config, 300);
-            }
-        }
-        1 => record.words = (0..cycles).map(|_| any_word(random, config, 0)).collect(),
-        2 => record.words = (0..cycles).map(|_| any_word(random, config, 200)).collect(),
-        _ => {
-            let other = generate::trace(random, config, cycles);
-            record = rules::true_record(config, &other);
-        }
-    }
-    if random.chance(512) {
-        record.rows = random.words(cycles);
-    }
-    if config.can_stop() && random.chance(512) {
-        let (any, before_a) = (random.below(cycles + 1), a.min(cycles as u64) as usize);
-        let end = random.pick(&[any, before_a]);
-        record.words[random.below(end + 1)..end].fill(STOPPED);
-    }
-    record
-}
-
 /// The buffers of a recheck.
 #[derive(Clone)]
 struct Lent {
@@ -389,7 +394,9 @@ impl Lent {
 
 pub fn recheck(case: &mut Case) -> Outcome {
     let config = case.config();
-    let cycles = case.cycles(config.n);
+    let in_cycle_0 = matches!(case.size, Size::Longest(_));
+    let sort = if in_cycle_0 { Sort::True } else { records::sort(&mut case.random) };
+    let cycles = case.recheck_cycles(config.n, sort);
     let old = case.trace(config, cycles);
     let is_good = config.refusal() == 0;
     let mut kept = if is_good {
@@ -399,31 +406,65 @@ pub fn recheck(case: &mut Case) -> Outcome {
     };
     let stop = kept.words.iter().position(|word| *word == STOPPED);
     let (a, b) = edit_range(case, cycles, stop);
-    let mut trace = old.clone();
-    let in_cycle_0 = matches!(case.size, Size::Longest(_));
-    if in_cycle_0 {
-        trace = generate::edited_in_cycle_0(&mut case.random, config, &old);
-    } else if is_good && a <= b && b <= cycles as u64 {
-        trace = generate::edited(&mut case.random, config, &old, a as usize, b as usize);
-    }
-    let is_true = in_cycle_0 || is_good && case.random.chance(640);
-    if is_good && !is_true {
-        kept = false_record(&mut case.random, config, kept, a);
+    let mut trace = edited(case, &Edit { config, trace: &old, a, b });
+    if is_good {
+        kept = records::kept(&mut case.random, sort, kept, &Edit { config, trace: &old, a, b });
     }
     case.cut_trace(&mut trace);
     let mut lent = Lent { rows: kept.rows, words: kept.words, answer: vec![0; case.length(6)] };
     lent.answer.iter_mut().for_each(|entry| *entry = case.random.word() as i32);
     lent.rows.resize(case.length(cycles), 5);
     lent.words.resize(case.length(cycles), 1);
-    compare_recheck(case, &Edit { config, trace: &trace, a, b }, lent, is_true)
+    let edit = Edit { config, trace: &trace, a, b };
+    if is_good && sort == Sort::Spoiled {
+        compare_places(case, &edit, cycles)?;
+    }
+    compare_recheck(case, &edit, lent, sort)
 }
 
-fn compare_recheck(case: &mut Case, edit: &Edit, lent: Lent, is_true: bool) -> Outcome {
+/// The trace after the edit; as it was where the edit is refused.
+fn edited(case: &mut Case, before: &Edit) -> Vec<u32> {
+    let Edit { config, trace: old, a, b } = *before;
+    if let Size::Longest(_) = case.size {
+        generate::edited_in_cycle_0(&mut case.random, config, old)
+    } else if config.refusal() == 0 && a <= b && b <= old.len() as u64 / 4 {
+        generate::edited(&mut case.random, config, old, a as usize, b as usize)
+    } else {
+        old.to_vec()
+    }
+}
+
+/// A record of possible words and one that is impossible, in one place after another.
+fn compare_places(case: &mut Case, edit: &Edit, cycles: usize) -> Outcome {
+    let (right, wrong) = (Words::new(edit.config, true), Words::new(edit.config, false));
+    let mut words: Vec<u64> = (0..cycles).map(|_| right.draw(&mut case.random)).collect();
+    let rows = vec![5; cycles];
+    let places = match cycles {
+        0 => 0,
+        1..LONG_RECORD => 6,
+        _ => 16,
+    };
+    for _ in 0..places {
+        let t = records::place(&mut case.random, cycles, edit);
+        let kept = std::mem::replace(&mut words[t], wrong.draw(&mut case.random));
+        let refusal = edit.refusal(&rows, &words, &[99; 6]);
+        compare_unaltered(edit, &rows, &words, refusal).map_err(|d| {
+            let (config, a, b, word) = (edit.config, edit.a, edit.b, words[t]);
+            format!("recheck, {config:?}, a {a}, b {b}, {cycles} cycles, {word:#x} in cycle {t}: {d}")
+        })?;
+        spoiled::tally_recheck(case.tally, edit, &words, refusal, Sort::Spoiled);
+        words[t] = kept;
+    }
+    Ok(())
+}
+
+fn compare_recheck(case: &mut Case, edit: &Edit, lent: Lent, sort: Sort) -> Outcome {
     let context = |d: String| {
         let lengths = [lent.rows.len(), lent.words.len(), lent.answer.len()];
         let (config, a, b, trace) = (edit.config, edit.a, edit.b, shown(edit.trace));
-        format!("recheck, {config:?}, a {a}, b {b}, true record {is_true}, lengths {lengths:?}: {d}\n{trace}")
+        format!("recheck, {config:?}, a {a}, b {b}, record {sort:?}, lengths {lengths:?}: {d}\n{trace}")
     };
+    let is_true = sort == Sort::True;
     let (mut given, mut due) = (lent.clone(), lent.clone());
     let answer = host::recheck(edit, &mut given.rows, &mut given.words, &mut given.answer).map_err(context)?;
     let refusal = if is_true {
@@ -431,18 +472,24 @@ fn compare_recheck(case: &mut Case, edit: &Edit, lent: Lent, is_true: bool) -> O
     } else {
         edit.recheck_any(&mut due.rows, &mut due.words, &mut due.answer)
     };
-    same("refusal", answer, refusal).and_then(|()| given.same_as(&due)).map_err(context)?;
-    if is_true && refusal == 0 {
+    // "A refusal writes nothing"
+    let left = if refusal == DONE { &due } else { &lent };
+    same("refusal and named cycle", answer, refusal).and_then(|()| given.same_as(left)).map_err(context)?;
+    refusal_claims(refusal, sort).map_err(context)?;
+    if is_true && refusal == DONE {
         true_record_claims(edit, &lent, &due).map_err(context)?;
     }
-    if refusal == 0 && lent.rows.len() <= 300 && edit.config.n <= 2000 {
+    if refusal == DONE && lent.rows.len() <= 300 && edit.config.n <= 2000 {
         step_claims(edit, &lent, &due).map_err(context)?;
     }
-    tally_recheck(case.tally, edit, &lent, &due, refusal, is_true);
-    tally_word_recheck(case.tally, edit, &lent.words, &due.answer, refusal, is_true);
-    if refusal == 0 {
-        let (kept, new) = (Record { rows: lent.rows, words: lent.words }, Record { rows: due.rows, words: due.words });
-        fatal::tally_recheck(case.tally, edit, &kept, &new, due.answer[0] as usize, is_true);
+    tally_rechecks(case.tally, edit, lent, due, refusal, sort);
+    Ok(())
+}
+
+/// §6: "records of a full check are never refused for this"; and no record is that has possible words only.
+fn refusal_claims(refusal: Refusal, sort: Sort) -> Outcome {
+    if refusal.number == 7 && matches!(sort, Sort::True | Sort::False) {
+        return Err(format!("the rules refuse a record without an impossible word: {refusal:?}"));
     }
     Ok(())
 }
@@ -465,21 +512,34 @@ fn step_claims(edit: &Edit, lent: &Lent, due: &Lent) -> Outcome {
     is_no_other(refusal, &stepped, due)
 }
 
-fn is_no_other(refusal: u32, other: &Lent, due: &Lent) -> Outcome {
-    if refusal != 0 || other.same_as(due).is_err() {
+fn is_no_other(refusal: Refusal, other: &Lent, due: &Lent) -> Outcome {
+    if refusal != DONE || other.same_as(due).is_err() {
         return Err(format!("the rules' own rechecks differ: e and changes {:?} and {:?}", other.answer, due.answer));
     }
     Ok(())
 }
 
-fn tally_recheck(tally: &mut Tally, edit: &Edit, lent: &Lent, due: &Lent, refusal: u32, is_true: bool) {
-    let (kind, last) = (edit.config.kind, (edit.trace.len() / 4) as u64);
-    tally.case(Call::Recheck, Some(kind), refusal);
-    tally.situation("recheck, a above b", refusal == 6 && edit.a > edit.b);
-    tally.situation("recheck, b above N", refusal == 6 && edit.a <= edit.b);
-    if refusal != 0 {
-        return;
+/// All that is counted of a recheck, with what it was lent and what it left.
+fn tally_rechecks(tally: &mut Tally, edit: &Edit, lent: Lent, due: Lent, refusal: Refusal, sort: Sort) {
+    let is_true = sort == Sort::True;
+    tally.case(Call::Recheck, Some(edit.config.kind), refusal.number);
+    tally.situation("recheck, a above b", refusal.number == 6 && edit.a > edit.b);
+    tally.situation("recheck, b above N", refusal.number == 6 && edit.a <= edit.b);
+    spoiled::tally_recheck(tally, edit, &lent.words, refusal, sort);
+    if refusal.number == 7 {
+        tally_word(tally, edit.config, lent.words[refusal.cycle as usize]);
     }
+    if refusal == DONE {
+        tally_recheck(tally, edit, &due, is_true);
+        tally_word_recheck(tally, edit, &lent.words, &due.answer, is_true);
+        let (kept, new) = (Record { rows: lent.rows, words: lent.words }, Record { rows: due.rows, words: due.words });
+        fatal::tally_recheck(tally, edit, &kept, &new, due.answer[0] as usize, is_true);
+    }
+}
+
+/// A recheck that is not refused.
+fn tally_recheck(tally: &mut Tally, edit: &Edit, due: &Lent, is_true: bool) {
+    let (kind, last) = (edit.config.kind, (edit.trace.len() / 4) as u64);
     let e = due.answer[0] as u64;
     let (a, b) = (edit.a as usize, edit.b as usize);
     tally.rows(Call::Recheck, kind, &due.rows[a..e as usize]);
@@ -487,8 +547,6 @@ fn tally_recheck(tally: &mut Tally, edit: &Edit, lent: &Lent, due: &Lent, refusa
     tally.situation("recheck, a = b = N = 0", last == 0);
     tally.situation("recheck, a = b", a == b);
     tally.situation("recheck of the whole trace", a == 0 && edit.b == last && last > 0);
-    let beyond = lent.words[a..].iter().any(|word| !edit.config.possible(*word));
-    tally.situation("recheck, impossible kept word after a", beyond);
     let ends = [e == edit.b, e > edit.b && e < last, e > edit.b && e == last];
     if is_true && !edit.config.is_fatal() {
         tally.situation("recheck, true record, e = b", ends[0]);
@@ -508,13 +566,10 @@ fn tally_recheck(tally: &mut Tally, edit: &Edit, lent: &Lent, due: &Lent, refusa
 }
 
 /// What a recheck went on from; and of kinds 7 and 8, whether it ended later than a limit like that of kind 4 would let it.
-fn tally_word_recheck(tally: &mut Tally, edit: &Edit, kept: &[u64], answer: &[i32], refusal: u32, is_true: bool) {
-    if !matches!(refusal, 0 | 7) {
-        return;
-    }
+fn tally_word_recheck(tally: &mut Tally, edit: &Edit, kept: &[u64], answer: &[i32], is_true: bool) {
     let before = rules::word_before(kept, edit.a as usize);
     tally_word(tally, edit.config, before);
-    if refusal == 0 && edit.config.is_after_trigger() && before != STOPPED {
+    if edit.config.is_after_trigger() && before != STOPPED {
         let e = answer[0] as u64;
         let (held, goes_on) = (rules::reference_in(before).is_some(), edit.config.kind == 8 && e > edit.a);
         tally.situation("recheck goes on with a reference", goes_on && held);

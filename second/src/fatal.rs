@@ -2,20 +2,9 @@
 //! them: those of a check, a failure list, a recheck, a step, an open word, a bench and a configuration.
 
 use crate::rules::{self, Config, Edit, Frame, Record, LONGEST_WINDOW, MOST_CYCLES, STOPPED};
-use crate::tally::Tally;
+use crate::tally::{kinds_of, of, tally_all, Situation, Tally, ALL};
 use crate::windows;
 
-struct Situation<T> {
-    kinds: &'static [u8],
-    name: &'static str,
-    is_met: fn(&T) -> bool,
-}
-
-const fn of<T>(kinds: &'static [u8], name: &'static str, is_met: fn(&T) -> bool) -> Situation<T> {
-    Situation { kinds, name, is_met }
-}
-
-const ALL: &[u8] = &[0, 1, 2, 3, 4, 5, 6, 7, 8];
 /// The kinds that open a check in a cycle that fails.
 const OPEN: &[u8] = &[0, 1, 6, 7];
 /// Kind 2 has no other attempt where one fails, and ignores a start there.
@@ -168,7 +157,7 @@ static STEPS: [Situation<Step>; 5] = [
     }),
 ];
 
-/// A word to go on from or to count, with a right configuration.
+/// A word to go on from, to count or to refuse, with a right configuration.
 struct Word {
     config: Config,
     word: u64,
@@ -201,20 +190,10 @@ static WORDS: [Situation<Word>; 8] = [
     of(ALL, "2^63 plus an open word refused, severity 1", |w| w.config.is_fatal() && w.has_open_bits()),
 ];
 
-fn kinds_of<T>(table: &'static [Situation<T>]) -> impl Iterator<Item = (u8, &'static str, u64)> {
-    table.iter().flat_map(|one| one.kinds.iter().map(move |kind| (*kind, one.name, 1)))
-}
-
 /// Every situation with each of its kinds, and how many times it has to be met.
 pub fn all_situations() -> impl Iterator<Item = (u8, &'static str, u64)> {
     let words_and_steps = kinds_of(&WORDS).chain(kinds_of(&STEPS));
     words_and_steps.chain(kinds_of(&CHECKS)).chain(kinds_of(&LISTS)).chain(kinds_of(&RECHECKS))
-}
-
-fn tally_all<T>(tally: &mut Tally, kind: u8, table: &'static [Situation<T>], met: &T) {
-    for situation in table.iter().filter(|situation| situation.kinds.contains(&kind)) {
-        tally.of_kind(kind, situation.name, (situation.is_met)(met));
-    }
 }
 
 fn failing_cycle(rows: &[u32]) -> Option<usize> {
@@ -291,7 +270,7 @@ pub fn tally_step(tally: &mut Tally, config: Config, word: u64, frame: Frame, ro
     }
 }
 
-/// The word of a step, of an open count or before a recheck.
+/// The word of a step or of an open count, or that which a recheck goes on from or names.
 pub fn tally_word(tally: &mut Tally, config: Config, word: u64) {
     tally_all(tally, config.kind, &WORDS, &Word { config, word, is_possible: config.possible(word) });
 }

@@ -1,4 +1,4 @@
-//! The inputs: configurations, traces, open words and records, all from one deterministic generator.
+//! The inputs: configurations, traces and open words, all from one deterministic generator.
 
 use crate::rules::{self, cycles_left_in, reference_in, with_reference, Config, Frame, Range, LONGEST_WINDOW, STOPPED};
 
@@ -124,6 +124,22 @@ pub fn longest_config(random: &mut Random, kind: u8) -> Config {
     let below_max = random.below(LONGEST_WINDOW as usize) as u32;
     let min = random.pick(&[0, 0, 1, LONGEST_WINDOW - 1, below_max]);
     Config { n: LONGEST_WINDOW, min: if config.is_after_trigger() { min } else { 0 }, ..config }
+}
+
+/// Another checker of the same trace: of any kind, of the same kind with other numbers, or one that differs in its kind, n,
+/// min or severity alone.
+pub fn another_checker(random: &mut Random, config: Config) -> Config {
+    match random.below(4) {
+        0 => return good_config(random),
+        1 => return good_config_of(random, config.kind),
+        _ => {}
+    }
+    let mut near: Vec<Config> = (0..=8).map(|kind| Config { kind, ..config }).collect();
+    near.extend([config.n + 1, config.n.saturating_sub(1)].map(|n| Config { n, ..config }));
+    near.extend([config.min + 1, config.min.saturating_sub(1)].map(|min| Config { min, ..config }));
+    near.extend([Config { severity: 1 - config.severity, ..config }; 2]);
+    near.retain(|other| other.refusal() == 0 && *other != config);
+    random.pick(&near)
 }
 
 /// n just outside of its limits, far outside, or anything. Where the width can follow n, it does: then n alone is bad.
@@ -559,6 +575,47 @@ fn possible_stability_word(random: &mut Random, config: Config) -> u64 {
         words.extend([with_reference(left, reference); 4]);
     }
     random.pick(&words)
+}
+
+fn around(word: u64) -> [u64; 3] {
+    [word - 1, word, word + 1]
+}
+
+/// Words at the limits of the possible ones and just beyond them, and words where those of other kinds have theirs.
+pub fn limit_words(config: Config) -> Vec<u64> {
+    let (n, stored, wide) = (u64::from(config.n), 1 << 32, 1 << config.p.width());
+    let mut words = vec![0, 1, 2, 3, u64::MAX];
+    words.extend([16, 32, 48, 62, 63].into_iter().flat_map(|power| around(1 << power)));
+    match config.kind {
+        0..=2 => {
+            // The greatest bit of an open word, and the one above it: alone, together, and with the least.
+            let (greatest, above) = (1 << (n - 2), 1 << (n - 1));
+            words.extend(around(above));
+            words.extend([greatest, greatest | 1, greatest | above]);
+        }
+        // Also where the lower 32 bits alone would do.
+        3..=5 => words.extend(around(n).into_iter().chain([n + 2, stored | n])),
+        6 => words.extend(around(stored + wide).into_iter().chain(around(wide))),
+        _ => words.extend(window_limits(config)),
+    }
+    words
+}
+
+/// Of these, the words that are possible, or those that are not. There always are some of both: 0 and 2^64−1.
+pub fn limit_words_that(config: Config, are_possible: bool) -> Vec<u64> {
+    let mut words = limit_words(config);
+    words.retain(|word| config.possible(*word) == are_possible);
+    words
+}
+
+/// Words of kinds 7 and 8 with as many cycles left as can be, and one more; without a reference, and with those at the
+/// limits.
+fn window_limits(config: Config) -> Vec<u64> {
+    let (min, max) = (u64::from(config.min), u64::from(config.n));
+    let greatest = u64::MAX >> (64 - config.p.width());
+    let lefts = [0, 1, max - min, max - min + 1, max, max + 1];
+    let held = |left| [0, 1, greatest, greatest + 1].map(|reference| with_reference(left, reference));
+    lefts.into_iter().chain(lefts.into_iter().flat_map(held)).collect()
 }
 
 /// A kind 8 word just beyond one of the limits, or one with a bit where none can be.

@@ -1,7 +1,7 @@
 //! The calls of include/selvedgeon.h. Every lent buffer lies between guard words; after each call the guards are checked, and
 //! that a buffer which the call may only read is as it was.
 
-use crate::rules::{Config, Edit, Frame};
+use crate::rules::{Config, Edit, Frame, Refusal};
 use std::fmt::Debug;
 use std::sync::atomic::{AtomicUsize, Ordering};
 
@@ -37,7 +37,7 @@ extern "C" {
         words: *mut u64, words_len: usize) -> u32;
     fn selvedgeon_recheck(kind: u8, n: u32, p_left: u8, p_right: u8, q_left: u8, q_right: u8, r_left: u8, r_right: u8,
         min: u32, value: u32, severity: u8, trace: *const u32, trace_len: usize, rows: *mut u32, rows_len: usize,
-        words: *mut u64, words_len: usize, a: u64, b: u64, answer: *mut i32, answer_len: usize) -> u32;
+        words: *mut u64, words_len: usize, a: u64, b: u64, answer: *mut i32, answer_len: usize) -> u64;
     fn selvedgeon_totals(rows: *const u32, rows_len: usize, counts: *mut u32, counts_len: usize) -> u32;
     fn selvedgeon_failures(kind: u8, n: u32, p_left: u8, p_right: u8, q_left: u8, q_right: u8, r_left: u8, r_right: u8,
         min: u32, value: u32, severity: u8, trace: *const u32, trace_len: usize, list: *mut u32, list_len: usize) -> u64;
@@ -150,12 +150,13 @@ pub fn check(c: Config, trace: &[u32], rows: &mut [u32], words: &mut [u64]) -> R
     Ok(answer)
 }
 
-pub fn recheck(edit: &Edit, rows: &mut [u32], words: &mut [u64], answer: &mut [i32]) -> Result<u32, String> {
+/// The number that C is answered is 2^32 times the refusal plus the cycle that refusal 7 names: both halves are handed on.
+pub fn recheck(edit: &Edit, rows: &mut [u32], words: &mut [u64], answer: &mut [i32]) -> Result<Refusal, String> {
     let c = edit.config;
     let mut t = Lent::new("trace", edit.trace);
     let (mut r, mut w, mut x) = (Lent::new("rows", rows), Lent::new("words", words), Lent::new("answer", answer));
     #[rustfmt::skip]
-    let refusal = unsafe {
+    let packed = unsafe {
         selvedgeon_recheck(c.kind, c.n, c.p.left, c.p.right, c.q.left, c.q.right, c.r.left, c.r.right, c.min, c.value,
             c.severity, t.pointer(), t.len(), r.pointer(), r.len(), w.pointer(), w.len(), edit.a, edit.b, x.pointer(),
             x.len())
@@ -164,7 +165,7 @@ pub fn recheck(edit: &Edit, rows: &mut [u32], words: &mut [u64], answer: &mut [i
     r.give_back(rows)?;
     w.give_back(words)?;
     x.give_back(answer)?;
-    Ok(refusal)
+    Ok(Refusal { number: (packed >> 32) as u32, cycle: packed as u32 })
 }
 
 pub fn totals(rows: &[u32], counts: &mut [u32]) -> Result<u32, String> {

@@ -1,4 +1,4 @@
-//! The rules of document 01, with §2, §4, §5 and §7 of document 02, as a search over starts. A full check looks, for every
+//! The rules of document 01, with §2 and §4 to §7 of document 02, as a search over starts. A full check looks, for every
 //! cycle, for the starts that matter in it; a step from an open word builds a trace that leaves this word and asks the same
 //! search about the cycle behind it, and a recheck about all cycles behind it. All of this is about a checker that goes on; a
 //! fatal one has its rows and words up to the first cycle that fails. The sentence that a function follows is quoted above it,
@@ -665,6 +665,17 @@ pub fn word_before(words: &[u64], t: usize) -> u64 {
     }
 }
 
+/// What a recheck answers besides its buffers. §6: "name the lowest such cycle. Otherwise that number is 0."
+#[derive(Clone, Copy, Debug, PartialEq, Eq)]
+pub struct Refusal {
+    pub number: u32,
+    /// The cycle that refusal 7 names.
+    pub cycle: u32,
+}
+
+/// "0 is done."
+pub const DONE: Refusal = Refusal { number: 0, cycle: 0 };
+
 /// What a recheck is handed.
 pub struct Edit<'a> {
     pub config: Config,
@@ -674,9 +685,8 @@ pub struct Edit<'a> {
 }
 
 impl Edit<'_> {
-    /// Refusals 1 to 7 "by number": 5 "another lent slice has not the length that is due", 6 "a above b, or b above N",
-    /// 7 "the word to go on from is not possible".
-    pub fn refusal(&self, rows: &[u32], words: &[u64], answer: &[i32]) -> u32 {
+    /// Refusals 1 to 6 "by number": 5 "another lent slice has not the length that is due", 6 "a above b, or b above N".
+    fn refusal_before_words(&self, rows: &[u32], words: &[u64], answer: &[i32]) -> u32 {
         let cycles = self.trace.len() / 4;
         let refusal = trace_refusal(self.config, self.trace);
         if refusal != 0 {
@@ -685,18 +695,30 @@ impl Edit<'_> {
             5
         } else if self.a > self.b || self.b > cycles as u64 {
             6
-        } else if !self.config.possible(word_before(words, self.a as usize)) {
-            7
         } else {
             0
         }
     }
 
+    /// §6: "Recheck is to give refusal 7 when any kept word, not only word a−1, is impossible for the configuration, and
+    /// name the lowest such cycle. Otherwise that number is 0. Order of tests stays." So no word is looked at before the
+    /// others are passed, of which the first makes certain that the configuration says what is possible.
+    pub fn refusal(&self, rows: &[u32], words: &[u64], answer: &[i32]) -> Refusal {
+        let number = self.refusal_before_words(rows, words, answer);
+        if number != 0 {
+            return Refusal { number, cycle: 0 };
+        }
+        match words.iter().position(|word| !self.config.possible(*word)) {
+            Some(cycle) => Refusal { number: 7, cycle: cycle as u32 },
+            None => DONE,
+        }
+    }
+
     /// The recheck of a true record: everything is checked again. "It ends at e, the least cycle from b to N such that e is N
     /// or its word before e equals the kept one"; the changes are those "over all N rows".
-    pub fn recheck_true(&self, rows: &mut [u32], words: &mut [u64], answer: &mut [i32]) -> u32 {
+    pub fn recheck_true(&self, rows: &mut [u32], words: &mut [u64], answer: &mut [i32]) -> Refusal {
         let refusal = self.refusal(rows, words, answer);
-        if refusal != 0 {
+        if refusal != DONE {
             return refusal;
         }
         let new = true_record(self.config, self.trace);
@@ -706,15 +728,15 @@ impl Edit<'_> {
         write_answer(e, rows, &new.rows, answer);
         rows.copy_from_slice(&new.rows);
         words.copy_from_slice(&new.words);
-        0
+        DONE
     }
 
     /// The recheck of any record: "goes on from kept word a−1 (0 when a is 0), one step for each cycle of the lent trace from
     /// a on. It ends at e, the least cycle from b to N such that e is N or its word before e equals the kept one […]. It
     /// writes a to e−1 only. It answers e and five signed changes, one per mark: new count less old count over a to e−1".
-    pub fn recheck_any(&self, rows: &mut [u32], words: &mut [u64], answer: &mut [i32]) -> u32 {
+    pub fn recheck_any(&self, rows: &mut [u32], words: &mut [u64], answer: &mut [i32]) -> Refusal {
         let refusal = self.refusal(rows, words, answer);
-        if refusal != 0 {
+        if refusal != DONE {
             return refusal;
         }
         let (a, b, last) = (self.a as usize, self.b as usize, rows.len());
@@ -725,14 +747,14 @@ impl Edit<'_> {
         write_answer(e, &rows[a..e], &new.rows[..e - a], answer);
         rows[a..e].copy_from_slice(&new.rows[..e - a]);
         words[a..e].copy_from_slice(&new.words[..e - a]);
-        0
+        DONE
     }
 
     /// The same by single steps, each from a trace of its own that leaves the word before it. Such a trace can be as long as
     /// a window, so this is for records and windows that are not long.
-    pub fn recheck_by_steps(&self, rows: &mut [u32], words: &mut [u64], answer: &mut [i32]) -> u32 {
+    pub fn recheck_by_steps(&self, rows: &mut [u32], words: &mut [u64], answer: &mut [i32]) -> Refusal {
         let refusal = self.refusal(rows, words, answer);
-        if refusal != 0 {
+        if refusal != DONE {
             return refusal;
         }
         let (a, b, last) = (self.a as usize, self.b as usize, rows.len());
@@ -749,7 +771,7 @@ impl Edit<'_> {
         write_answer(e, &rows[a..e], &new.rows, answer);
         rows[a..e].copy_from_slice(&new.rows);
         words[a..e].copy_from_slice(&new.words);
-        0
+        DONE
     }
 
     /// "For true kept records, e ≤ b+n−1 for kinds 0 and 1, e ≤ b+n for kind 4, e ≤ b+1 for kind 6. Kinds 2, 3 and 5 have no

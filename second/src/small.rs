@@ -1,7 +1,8 @@
-//! Inputs so small that all of them are compared: configurations, words at their limits, single steps, and short traces.
+//! Inputs so small that all of them are compared: configurations, words at their limits, single steps, short traces, and
+//! the places of impossible words in a record.
 
-use crate::cases::{same, same_entries};
-use crate::generate::{wire, UNUSED};
+use crate::cases::{compare_unaltered, same, same_entries};
+use crate::generate::{self, wire, UNUSED};
 use crate::host;
 use crate::rules::{self, Config, Edit, Range, Record, LONGEST_WINDOW, STOPPED};
 
@@ -10,6 +11,21 @@ type Outcome = Result<(), String>;
 fn compare_open_count(config: Config, word: u64) -> Outcome {
     same("open count", host::open_count(config, word), rules::open_count(config, word))
         .map_err(|d| format!("{config:?}, word {word:#x}: {d}"))
+}
+
+/// Refusal and named cycle of a record with these words. With a = b in the middle nothing else is done, and the frames, which
+/// are all in reset, are not looked at.
+fn compare_kept(config: Config, words: &[u64]) -> Outcome {
+    let (trace, rows, at) = (vec![0; 4 * words.len()], vec![77; words.len()], words.len() as u64 / 2);
+    let edit = Edit { config, trace: &trace, a: at, b: at };
+    let refusal = edit.refusal(&rows, words, &[99; 6]);
+    compare_unaltered(&edit, &rows, words, refusal).map_err(|d| format!("{config:?}, kept words {words:x?}: {d}"))
+}
+
+/// Whether a word is possible, seen through its open count and as one of three kept words.
+fn compare_word(config: Config, word: u64) -> Outcome {
+    compare_open_count(config, word)?;
+    compare_kept(config, &[0, 0, word])
 }
 
 /// The refusal of a configuration, seen through the open count of word 0, which is always possible: with both severities, the
@@ -164,37 +180,27 @@ fn words_to_try(config: Config) -> Vec<u64> {
     words
 }
 
-/// Words of kinds 7 and 8 at the limits and one beyond, and each of them with one bit turned round.
+/// Words at the limits and one beyond, and each of them with one bit turned round.
 fn words_at_limits(config: Config) -> Vec<u64> {
-    let (min, max) = (u64::from(config.min), u64::from(config.n));
-    let greatest = u64::MAX >> (64 - config.p.width());
-    let lefts = [0, 1, max - min, max - min + 1, max, max + 1];
-    let held = |left| [0, 1, greatest, greatest + 1].map(|reference| rules::with_reference(left, reference));
-    let mut words: Vec<u64> = lefts.into_iter().chain(lefts.into_iter().flat_map(held)).collect();
+    let mut words = generate::limit_words(config);
     let turned: Vec<u64> = words.iter().flat_map(|word| (0..64).map(move |bit| word ^ 1 << bit)).collect();
     words.extend(turned);
     words
 }
 
-/// Which words are possible, for windows of all sorts on few wires and on many.
-fn window_words() -> Result<u64, String> {
+/// Windows of kinds 7 and 8 of all sorts, on few wires and on many.
+fn all_sorts_of_windows() -> Vec<Config> {
     let longest = [0, 1, 50_000, LONGEST_WINDOW - 1, LONGEST_WINDOW].map(|min| (min, LONGEST_WINDOW));
     let limits = [(0, 0), (0, 3), (1, 3), (3, 3), (0, 1024), (0, 1025), (1000, 1025), (0, LONGEST_WINDOW - 1)];
     let limits: Vec<(u32, u32)> = limits.into_iter().chain(longest).collect();
-    let mut compared = 0;
+    let mut configs = Vec::new();
     for (width, &(min, n)) in
         [1, 2, 16, 31, 32].into_iter().flat_map(|width| limits.iter().map(move |limit| (width, limit)))
     {
         let p = Range { left: width - 1, right: 0 };
-        let window = |kind| Config { kind, n, p, q: wire(9), r: UNUSED, min, value: 0, severity: 0 };
-        for config in [7, 8].into_iter().flat_map(|kind| both(window(kind))) {
-            for word in words_at_limits(config) {
-                compare_open_count(config, word)?;
-                compared += 1;
-            }
-        }
+        configs.extend([7, 8].map(|kind| Config { kind, n, p, q: wire(9), r: UNUSED, min, value: 0, severity: 0 }));
     }
-    Ok(compared)
+    configs
 }
 
 /// Every kind with the most wires, where n is not a window.
@@ -204,13 +210,14 @@ fn widest() -> Vec<Config> {
     vec![new(0, 32, UNUSED), new(1, 32, UNUSED), new(2, 32, UNUSED), new(6, 0, all)]
 }
 
-/// 2^63, and with one bit turned round, for checkers of all sorts.
-fn stopped_words() -> Result<u64, String> {
+/// Which words are possible, for checkers of all sorts.
+fn words() -> Result<u64, String> {
     let mut compared = 0;
-    let configs = [small_configs(), small_windows(), longest_windows(), widest()].concat();
+    let windows = [small_windows(), longest_windows(), all_sorts_of_windows()].concat();
+    let configs = [small_configs(), widest(), windows].concat();
     for config in configs.into_iter().flat_map(both) {
-        for word in (0..64).map(|bit| STOPPED ^ 1 << bit).chain([STOPPED]) {
-            compare_open_count(config, word)?;
+        for word in words_at_limits(config) {
+            compare_word(config, word)?;
             compared += 1;
         }
     }
@@ -226,7 +233,7 @@ fn longest_windows() -> Vec<Config> {
     configs
 }
 
-/// Every frame from every word, and the open count of the word.
+/// Every frame from every word; and whether the word is possible.
 fn steps(config: Config) -> Result<u64, String> {
     steps_from(config, words_to_try(config))
 }
@@ -243,7 +250,7 @@ fn longest_steps(config: Config) -> Result<u64, String> {
 fn steps_from(config: Config, words: Vec<u64>) -> Result<u64, String> {
     let mut compared = 0;
     for &word in &words {
-        compare_open_count(config, word)?;
+        compare_word(config, word)?;
     }
     for frame in all_frames(config) {
         for &word in &words {
@@ -303,6 +310,59 @@ fn rechecks(config: Config) -> Result<u64, String> {
     Ok(compared)
 }
 
+/// Every choice of impossible words in the true record of three cycles, and of none, with every a and b up to 4: also those
+/// of refusal 6, which comes first.
+fn spoiled_records(config: Config) -> Result<u64, String> {
+    let frames = trace_frames(config);
+    let trace = [frames[1], frames[frames.len() / 2], frames[frames.len() - 1]].concat();
+    let Record { rows, words } = rules::true_record(config, &trace);
+    let impossible = generate::limit_words_that(config, false);
+    let mut compared = 0;
+    for (word, chosen) in [impossible[0], u64::MAX].into_iter().flat_map(|word| (0..8).map(move |chosen| (word, chosen))) {
+        let spoiled = words.iter().enumerate().map(|(t, right)| if chosen >> t & 1 == 1 { word } else { *right });
+        let kept = Record { rows: rows.clone(), words: spoiled.collect() };
+        for (a, b) in (0..=4).flat_map(|a| (0..=4).map(move |b| (a, b))) {
+            let words = &kept.words;
+            compare_recheck(&Edit { config, trace: &trace, a, b }, &kept)
+                .map_err(|d| format!("{config:?}, trace {trace:x?}, a {a}, b {b}, kept words {words:x?}: {d}"))?;
+            compared += 1;
+        }
+    }
+    Ok(compared)
+}
+
+/// No impossible word, and one in every place, of records of all these lengths: the words may be tested in blocks of any
+/// size. And two in every two places of a record of 40 cycles.
+fn spoiled_places(config: Config) -> Result<u64, String> {
+    let [possible, impossible] = [true, false].map(|are_possible| generate::limit_words_that(config, are_possible));
+    let mut compared = 0;
+    for cycles in (0..=130).chain([1_100]) {
+        let right: Vec<u64> = (0..cycles).map(|t| possible[t % possible.len()]).collect();
+        compare_kept(config, &right)?;
+        for t in 0..cycles {
+            let mut words = right.clone();
+            words[t] = impossible[t % impossible.len()];
+            compare_kept(config, &words)?;
+            if cycles == 40 {
+                compared += spoiled_again(config, &words, t, impossible[0])?;
+            }
+        }
+        compared += 1 + cycles as u64;
+    }
+    Ok(compared)
+}
+
+/// A second impossible word in every place behind the first.
+fn spoiled_again(config: Config, words: &[u64], first: usize, word: u64) -> Result<u64, String> {
+    for t in first + 1..words.len() {
+        let mut words = words.to_vec();
+        words[t] = word;
+        compare_kept(config, &words)?;
+    }
+    Ok((words.len() - first - 1) as u64)
+}
+
+/// From a true record, or a spoiled one.
 fn compare_recheck(edit: &Edit, kept: &Record) -> Outcome {
     let (mut rows, mut words, mut answer) = (kept.rows.clone(), kept.words.clone(), [99; 6]);
     let (mut due_rows, mut due_words, mut due) = (kept.rows.clone(), kept.words.clone(), [99; 6]);
@@ -329,18 +389,24 @@ fn compare_trace(config: Config, trace: &[u32]) -> Outcome {
 
 fn compare_all() -> Result<String, String> {
     let configs = configs()? + mins_and_values()? + severities()?;
-    let words = window_words()? + stopped_words()?;
-    let mut counts = [0; 3];
+    let words = words()?;
+    let mut counts = [0; 4];
     for config in small_configs().into_iter().chain(small_windows()).flat_map(both) {
-        for (count, compare) in counts.iter_mut().zip([steps, traces, rechecks]) {
+        for (count, compare) in counts.iter_mut().zip([steps, traces, rechecks, spoiled_records]) {
             *count += compare(config)?;
         }
     }
     for config in longest_windows().into_iter().flat_map(both) {
         counts[0] += longest_steps(config)?;
     }
-    let [steps, traces, rechecks] = counts;
-    Ok(format!("{configs} configurations, {words} words, {steps} steps, {traces} traces, {rechecks} rechecks"))
+    for config in longest_windows().into_iter().chain(widest()).flat_map(both) {
+        counts[3] += spoiled_places(config)?;
+    }
+    let [steps, traces, rechecks, spoiled] = counts;
+    Ok(format!(
+        "{configs} configurations, {words} words, {steps} steps, {traces} traces, {rechecks} rechecks, \
+         {spoiled} spoiled records"
+    ))
 }
 
 pub fn compare() -> Result<String, String> {

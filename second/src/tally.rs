@@ -1,6 +1,6 @@
 //! What the run has covered: how many cases each call, kind, mark, refusal and situation had. A run that missed one fails.
 
-use crate::{fatal, windows};
+use crate::{fatal, spoiled, windows};
 use std::collections::BTreeMap;
 use std::ops::RangeInclusive;
 
@@ -63,7 +63,7 @@ const KINDS: RangeInclusive<u8> = 0..=8;
 pub const NO_KIND: u8 = 9;
 
 /// The situations that every run has to meet, besides calls, kinds, marks and refusals.
-const SITUATIONS: [&str; 83] = [
+const SITUATIONS: [&str; 85] = [
     "check of 0 cycles",
     "check of 1 cycle",
     "check of 65,536 cycles",
@@ -87,7 +87,9 @@ const SITUATIONS: [&str; 83] = [
     "recheck, false record, e = b",
     "recheck, false record, e between b and N",
     "recheck, false record, e = N above b",
-    "recheck, impossible kept word after a",
+    "recheck refused 1, a kept word that no checker leaves",
+    "recheck refused 2, a kept word that no checker leaves",
+    "recheck refused 3, a kept word that no checker leaves",
     "failures, list exactly long enough",
     "failures, list one word short",
     "failures, list longer",
@@ -149,6 +151,35 @@ const SITUATIONS: [&str; 83] = [
     "failures, start in its own cycle",
 ];
 
+/// A situation that each of some kinds has to meet.
+pub struct Situation<T> {
+    kinds: &'static [u8],
+    name: &'static str,
+    is_met: fn(&T) -> bool,
+}
+
+pub const fn of<T>(kinds: &'static [u8], name: &'static str, is_met: fn(&T) -> bool) -> Situation<T> {
+    Situation { kinds, name, is_met }
+}
+
+pub const ALL: &[u8] = &[0, 1, 2, 3, 4, 5, 6, 7, 8];
+
+/// Every situation of a table with each of its kinds, and how many times it has to be met.
+pub fn kinds_of<T>(table: &'static [Situation<T>]) -> impl Iterator<Item = (u8, &'static str, u64)> {
+    table.iter().flat_map(|one| one.kinds.iter().map(move |kind| (*kind, one.name, 1)))
+}
+
+pub fn tally_all<T>(tally: &mut Tally, kind: u8, table: &'static [Situation<T>], met: &T) {
+    tally_any(tally, kind, table, std::slice::from_ref(met));
+}
+
+/// Counts a situation once if one or several of these meet it.
+pub fn tally_any<T>(tally: &mut Tally, kind: u8, table: &'static [Situation<T>], met: &[T]) {
+    for situation in table.iter().filter(|situation| situation.kinds.contains(&kind)) {
+        tally.of_kind(kind, situation.name, met.iter().any(situation.is_met));
+    }
+}
+
 #[derive(Default)]
 pub struct Tally {
     refusals: BTreeMap<(Call, u32), u64>,
@@ -187,7 +218,7 @@ impl Tally {
         *self.situations.entry(name).or_default() += u64::from(met);
     }
 
-    /// A situation of a window or of a fatal checker; each is counted for every kind that has it.
+    /// A situation of a window, of a fatal checker or of a kept record; each is counted for every kind that has it.
     pub fn of_kind(&mut self, kind: u8, name: &'static str, met: bool) {
         *self.of_kinds.entry((kind, name)).or_default() += u64::from(met);
     }
@@ -253,7 +284,8 @@ impl Tally {
         }
         let not_met = SITUATIONS.iter().filter(|name| self.situations.get(*name).copied().unwrap_or(0) == 0);
         missed.extend(not_met.map(|name| name.to_string()));
-        for (kind, name, least) in windows::all_situations().chain(fatal::all_situations()) {
+        let of_kinds = windows::all_situations().chain(fatal::all_situations()).chain(spoiled::all_situations());
+        for (kind, name, least) in of_kinds {
             if self.of_kinds.get(&(kind, name)).copied().unwrap_or(0) < least {
                 missed.push(format!("kind {kind}: {name}"));
             }

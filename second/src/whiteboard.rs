@@ -1,11 +1,12 @@
 //! The whiteboard table of document 01 and the examples under it. The numbers are the document's, but for the rows of case
 //! H, which §2 of document 02 changes: "Case H becomes 4 0 20 0 20 0, same words." A second table has cases of kinds 7 and 8,
-//! worked by hand from the sentences of §4, a third has the longest windows, from those of §5, and a fourth fatal checkers,
-//! from those of §7. The library and the rules are both held against them.
+//! worked by hand from the sentences of §4, a third has the longest windows, from those of §5, a fourth fatal checkers,
+//! from those of §7, and a fifth records of other checkers, from those of §6. The library and the rules are both held against
+//! them.
 
 use crate::generate::{wire, UNUSED};
 use crate::host;
-use crate::rules::{self, Config, Edit, Frame, Range};
+use crate::rules::{self, Config, Edit, Frame, Range, Record, Refusal, DONE};
 use std::fmt::Debug;
 
 type Outcome = Result<(), String>;
@@ -182,22 +183,48 @@ fn check_list(config: Config, trace: &[u32], list: &[u32]) -> Outcome {
     are("list of the rules", &rules::entries(config, trace).concat(), list)
 }
 
-/// A recheck of the true record of `old` after the edit from a to b.
-fn check_recheck(edit: &Edit, old: &[u32], rows: &[u32], words: &[u64], answer: [i32; 6]) -> Outcome {
-    let kept = rules::true_record(edit.config, old);
-    for by in ["the library", "the rules", "the rules from the kept word"] {
-        let (mut r, mut w, mut x) = (kept.rows.clone(), kept.words.clone(), [99; 6]);
+/// Who rechecks a true record, and who rechecks any: only a true one may be checked anew from cycle 0.
+const OF_TRUE: [&str; 3] = ["the library", "the rules", "the rules from the kept word"];
+const OF_ANY: [&str; 3] = ["the library", "the rules from the kept word", "the rules by single steps"];
+
+/// What is due from a recheck.
+struct Due<'a> {
+    refusal: Refusal,
+    rows: &'a [u32],
+    words: &'a [u64],
+    answer: [i32; 6],
+}
+
+fn check_kept(edit: &Edit, kept: &Record, all: [&str; 3], due: Due) -> Outcome {
+    for by in all {
+        let (mut r, mut w, mut x) = (kept.rows.clone(), kept.words.clone(), NO_ANSWER);
         let refusal = match by {
             "the library" => host::recheck(edit, &mut r, &mut w, &mut x)?,
             "the rules" => edit.recheck_true(&mut r, &mut w, &mut x),
-            _ => edit.recheck_any(&mut r, &mut w, &mut x),
+            "the rules from the kept word" => edit.recheck_any(&mut r, &mut w, &mut x),
+            _ => edit.recheck_by_steps(&mut r, &mut w, &mut x),
         };
-        is(&format!("answer of {by}"), refusal, 0)?;
-        are(&format!("e and changes of {by}"), &x, &answer)?;
-        are(&format!("rows of {by}"), &r, rows)?;
-        are(&format!("words of {by}"), &w, words)?;
+        is(&format!("refusal and named cycle of {by}"), refusal, due.refusal)?;
+        are(&format!("e and changes of {by}"), &x, &due.answer)?;
+        are(&format!("rows of {by}"), &r, due.rows)?;
+        are(&format!("words of {by}"), &w, due.words)?;
     }
     Ok(())
+}
+
+/// A recheck of the true record of `old` after the edit from a to b.
+fn check_recheck(edit: &Edit, old: &[u32], rows: &[u32], words: &[u64], answer: [i32; 6]) -> Outcome {
+    let kept = rules::true_record(edit.config, old);
+    check_kept(edit, &kept, OF_TRUE, Due { refusal: DONE, rows, words, answer })
+}
+
+/// What stands in the slice of answers before a call.
+const NO_ANSWER: [i32; 6] = [99; 6];
+
+/// A recheck that is refused: "A refusal writes nothing".
+fn check_refused(edit: &Edit, kept: &Record, number: u32, cycle: u32) -> Outcome {
+    let (refusal, answer) = (Refusal { number, cycle }, NO_ANSWER);
+    check_kept(edit, kept, OF_ANY, Due { refusal, rows: &kept.rows, words: &kept.words, answer })
 }
 
 /// "Samples of F under kind 1 list (2,1,0), (2,1,1). C lists (5,1,3)." and the two rechecks after it.
@@ -344,7 +371,7 @@ fn greatest_changes() -> Outcome {
             } else {
                 edit.recheck_any(&mut rows, &mut words, &mut answer)
             };
-            is("answer", refusal, 0)?;
+            is("refusal and named cycle", refusal, DONE)?;
             are("e and changes", &answer, &due)?;
             are("rows", &rows, &vec![new; cycles])?;
         }
@@ -862,6 +889,136 @@ fn fatal_checkers() -> Result<usize, String> {
     Ok(lines.len())
 }
 
+/// The record of a case above, another checker of the same trace that is handed it, and the cycle that is named.
+///
+/// A: under kind 2 the 5 of cycle 2 is two attempts. With n 3 words are below 4, with n 2 below 2. A window of 4 cycles, or
+///    of 3, never has 5 left, and a transition no word between 0 and 2^32.
+/// G: with n 2, the 3 of cycle 0 is one too many. Kind 2 takes it as two attempts.
+/// J: kind 8 with min 0 has no window without a reference; for a transition 1 is no word.
+/// K: the 4 of cycle 0 does not fit two wires. For a sequence and for a window all of 2^32 is too much.
+/// Q: with min 0 a window has a reference from its trigger on. With min 3 a reference comes with 1 cycle left, not with 2.
+///    With max 3 the 4 is one too many. Kind 7 has no references.
+/// R: the references 3 of cycle 0 and 5 of cycle 3 need two wires and three; with min 1 they come with 1 cycle left.
+/// E, fatal: 2^63 from cycle 2 on is not left by a checker that goes on, nor by kind 8 with min equal to max, which cannot
+///    fail; the 1 and 3 before it are where max is 3, but not where it is 2. AG, fatal, is stopped in cycle 0.
+fn others_records() -> Vec<(&'static str, Config, u32)> {
+    let wires = |left| Range { left, right: 0 };
+    let two_wires = Config { p: wires(1), q: wires(1), r: wires(1), ..transition() };
+    let tracked = |left, config| Config { p: wires(left), ..config };
+    vec![
+        ("A", sequence(2, 4, 3, 0), 2),
+        ("A", sequence(1, 3, 2, 0), 2),
+        ("A", sequence(0, 2, 0, 1), 1),
+        ("A", time(3, 4), 2),
+        ("A", time(5, 3), 2),
+        ("A", transition(), 0),
+        ("G", time(3, 2), 0),
+        ("G", fatal(time(4, 2)), 0),
+        ("G", sequence(2, 3, 2, 0), 0),
+        ("J", stability(0, 3), 0),
+        ("J", transition(), 0),
+        ("K", two_wires, 0),
+        ("K", fatal(two_wires), 0),
+        ("K", sequence(1, 32, 31, 0), 0),
+        ("K", time(4, 65_535), 0),
+        ("Q", stability(0, 4), 0),
+        ("Q", stability(3, 4), 2),
+        ("Q", stability(1, 3), 0),
+        ("Q", value(1, 4, 5), 2),
+        ("R", tracked(0, stability(0, 2)), 0),
+        ("R", tracked(1, stability(0, 2)), 3),
+        ("R", stability(1, 2), 0),
+        ("E, fatal", sequence(1, 3, 2, 0), 2),
+        ("E, fatal", fatal(stability(2, 2)), 1),
+        ("E, fatal", fatal(stability(3, 3)), 2),
+        ("AG, fatal", value(0, 2, 5), 0),
+        ("AG, fatal", fatal(stability(1, 1)), 0),
+    ]
+}
+
+/// The trace of a case above, and its record.
+fn record_of(name: &str) -> Result<(Vec<u32>, Record), String> {
+    let (name, is_fatal) = name.strip_suffix(", fatal").map_or((name, false), |name| (name, true));
+    let going_on = sequence_lines().into_iter().chain(other_lines()).chain(window_lines());
+    let fatal = fatal_sequence_lines().into_iter().chain(fatal_window_lines()).map(|fatal| fatal.line);
+    let line = going_on.chain(fatal).find(|line| line.name == name && line.config.is_fatal() == is_fatal);
+    let line = line.ok_or(format!("there is no case {name}"))?;
+    Ok((line.trace, Record { rows: line.rows, words: line.words }))
+}
+
+/// §6: "Recheck is to give refusal 7 when any kept word, not only word a−1, is impossible for the configuration, and name
+/// the lowest such cycle", whatever a and b are. The answer is how many records there are.
+fn others_refused() -> Result<usize, String> {
+    let others = others_records();
+    for &(name, config, cycle) in &others {
+        let (trace, kept) = record_of(name)?;
+        let last = kept.rows.len() as u64;
+        for (a, b) in (0..=last).flat_map(|a| (a..=last).map(move |b| (a, b))) {
+            check_refused(&Edit { config, trace: &trace, a, b }, &kept, 7, cycle)
+                .map_err(|d| format!("record of case {name} for {config:?}, a {a}, b {b}: {d}"))?;
+        }
+    }
+    Ok(others.len())
+}
+
+/// Records of other checkers whose words are all possible: the recheck runs.
+fn others_accepted() -> Outcome {
+    // H for kind 3, from the 2 of cycle 1. Cycle 2 has test 0, cycle 3 closes the window, and cycle 4 opens the next with
+    // the word 3 that is kept there: e is 5. The rows of cycles 2 to 4 were 20, 0 and 20.
+    let (trace, kept) = record_of("H")?;
+    let edit = Edit { config: time(3, 3), trace: &trace, a: 2, b: 3 };
+    let (rows, words, answer) = (&[4, 0, 1, 8, 4, 0], &[3, 2, 1, 0, 3, 2], [5, 1, 0, -1, 1, -2]);
+    check_kept(&edit, &kept, OF_ANY, Due { refusal: DONE, rows, words, answer })?;
+
+    // E for the fatal checker, which stops in cycle 2, where the row is the same. Those of cycles 3 to 5 were 5.
+    let (trace, kept) = record_of("E")?;
+    let edit = Edit { config: fatal(sequence(1, 3, 2, 0)), trace: &trace, a: 2, b: 3 };
+    let (rows, words, answer) = (&[4, 4, 5, 0, 0, 0], &[1, 3, S, S, S, S], [6, -3, 0, -3, 0, 0]);
+    check_kept(&edit, &kept, OF_ANY, Due { refusal: DONE, rows, words, answer })
+}
+
+/// §6: "Order of tests stays", "Otherwise that number is 0": the record of A for kind 2 with each earlier refusal, and what
+/// would be refused later wrong too. 23 words are no whole number of frames, and 20 are one frame less than there are rows.
+fn spoiled_order() -> Outcome {
+    let (trace, kept) = record_of("A")?;
+    let right = sequence(2, 4, 3, 0);
+    let bad_n = [Config { n: 33, ..right }, Config { severity: 2, ..right }];
+    let bad = [(Config { kind: 9, ..right }, 1), (bad_n[0], 2), (bad_n[1], 2), (Config { q: wire(1), ..right }, 3)];
+    for (config, number) in bad {
+        check_refused(&Edit { config, trace: &trace[1..], a: 5, b: 4 }, &kept, number, 0)?;
+    }
+    let edit = |trace, a, b| Edit { config: right, trace, a, b };
+    check_refused(&edit(&trace[1..], 5, 4), &kept, 4, 0)?;
+    check_refused(&edit(&trace[4..], 5, 4), &kept, 5, 0)?;
+    for (a, b) in [(5, 4), (3, 7), (0, 7), (7, 7), (u64::MAX, 0), (3 + (1 << 32), 4 + (1 << 32))] {
+        check_refused(&edit(&trace, a, b), &kept, 6, 0)?;
+    }
+    check_refused(&edit(&trace, 4, 5), &kept, 7, 2)
+}
+
+/// A record of 65,536 cycles, spoiled in the last and then in ever lower ones.
+fn spoiled_longest() -> Outcome {
+    let trace = long_frames(QUIET, &[(0, START)]);
+    let mut kept = Record { rows: long_rows(&[(0, 4), (65_535, 8)]), words: countdown() };
+    for (cycle, word) in [(65_535, 65_536), (65_534, u64::MAX), (32_768, S), (4_095, STORED), (1, S + 1), (0, 65_536)] {
+        kept.words[cycle as usize] = word;
+        for (a, b) in [(0, 0), (0, 65_536), (32_768, 32_769), (65_536, 65_536)] {
+            check_refused(&Edit { config: time(3, 65_535), trace: &trace, a, b }, &kept, 7, cycle)
+                .map_err(|d| format!("cycle {cycle}, a {a}, b {b}: {d}"))?;
+        }
+    }
+    Ok(())
+}
+
+/// Records of other checkers and spoiled ones; the answer is how many cases there are in their table.
+fn spoiled_records() -> Result<usize, String> {
+    let others = others_refused()?;
+    others_accepted().map_err(|d| format!("records of other checkers that are not refused: {d}"))?;
+    spoiled_order().map_err(|d| format!("earlier refusals of a spoiled record: {d}"))?;
+    spoiled_longest().map_err(|d| format!("spoiled record of 65,536 cycles: {d}"))?;
+    Ok(others)
+}
+
 /// What was compared, in words.
 pub fn compare() -> Result<String, String> {
     let document: Vec<Line> = sequence_lines().into_iter().chain(other_lines()).collect();
@@ -877,10 +1034,13 @@ pub fn compare() -> Result<String, String> {
     window_limits().map_err(|d| format!("limits of kinds 7 and 8: {d}"))?;
     window_words().map_err(|d| format!("words of kinds 7 and 8: {d}"))?;
     let (document, windows, longest, fatal) = (document.len(), windows.len(), longest()?, fatal_checkers()?);
+    let spoiled = spoiled_records()?;
     Ok(format!(
         "whiteboard table: {document} cases and the examples under it, all as in the document\n\
          kinds 7 and 8: {windows} cases, a recheck, limits and words, all as worked by hand\n\
          longest windows: {longest} cases, lists, rechecks, limits and words, all as worked by hand\n\
-         fatal checkers: {fatal} cases, lists, rechecks, a bench, limits, words and steps, all as worked by hand"
+         fatal checkers: {fatal} cases, lists, rechecks, a bench, limits, words and steps, all as worked by hand\n\
+         records of other checkers: {spoiled} refused, two rechecks, earlier refusals and a longest record, all as worked \
+         by hand"
     ))
 }

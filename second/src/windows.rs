@@ -185,7 +185,8 @@ pub fn tally_longest(tally: &mut Tally, config: Config, rows: &[u32]) {
     tally.of_kind(config.kind, LONGEST_CLOSED, is_met(9) || is_met(8));
 }
 
-/// The word of a step, of an open count or before a recheck, at the limits of the possible words and just beyond them.
+/// The word of a step or of an open count, or that which a recheck goes on from or names, at the limits of the possible
+/// words and just beyond them.
 pub fn tally_word(tally: &mut Tally, config: Config, word: u64) {
     let (min, max) = (u64::from(config.min), u64::from(config.n));
     tally_longest_word(tally, config, word);

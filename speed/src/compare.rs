@@ -1,8 +1,9 @@
 //! Whether the proved library answers every call that is timed as ordinary Rust does.
 use crate::engine::{Answer, Engine, Plain, Record};
-use crate::inputs::{cut, kept_rows, Call, Input, BENCH, CYCLES, LIST};
-use crate::plain::{Config, Range, FAILURE, ILLEGAL, MOST_PIPE, OPENED};
+use crate::inputs::{cut, false_record, Call, Input, BENCH, CYCLES, LIST};
+use crate::plain::{self, Config, FAILURE, ILLEGAL, MOST_PIPE, OPENED};
 use crate::proved::Library;
+use std::ops::Range;
 
 pub fn compare(library: &Library, input: &Input) -> Result<(), String> {
     let trace = &input.trace[..];
@@ -12,7 +13,9 @@ pub fn compare(library: &Library, input: &Input) -> Result<(), String> {
     for (k, config) in input.checkers.iter().enumerate() {
         let own = &input.frames(k)[..];
         let compared = match input.call {
-            Call::Recheck => compare_recheck(library, config, own, &kept_rows(config, trace, k)),
+            Call::Recheck => compare_recheck(library, config, own, false_record(config, trace, k), 0..1),
+            Call::OneCycle => compare_check(library, config, own)
+                .and_then(|record| compare_recheck(library, config, own, record, CYCLES - 1..CYCLES)),
             Call::List | Call::OwnList { .. } => compare_list(library, config, own),
             _ => compare_check(library, config, own).map(|_| ()),
         };
@@ -53,18 +56,23 @@ fn equal(answers: [Answer; 2], records: [&Record; 2]) -> Result<(), String> {
     Ok(())
 }
 
-/// A recheck of the false record has to run over all cycles and to leave what the full check leaves.
-fn compare_recheck(library: &Library, config: &Config, trace: &[u32], kept: &[u32]) -> Result<(), String> {
+/// A recheck of an edit has to run to the last cycle and to leave what the full check leaves.
+fn compare_recheck(
+    library: &Library,
+    config: &Config,
+    trace: &[u32],
+    mut record: Record,
+    edit: Range<usize>,
+) -> Result<(), String> {
     let full = compare_check(library, config, trace)?;
-    let mut record = Record::new(CYCLES);
-    record.make_false(kept);
-    let answer = library.recheck(config, trace, &mut record, 0..1);
+    let kept = record.rows.clone();
+    let answer = library.recheck(config, trace, &mut record, edit);
     equal([answer.map(|_| ()), Ok(())], [&record, &full]).map_err(|difference| format!("recheck, {difference}"))?;
 
     let mut expected = [CYCLES as i32, 0, 0, 0, 0, 0];
     for (mark, change) in expected[1..].iter_mut().enumerate() {
         let count = |rows: &[u32]| rows.iter().filter(|row| *row >> mark & 1 != 0).count() as i32;
-        *change = count(&full.rows) - count(kept);
+        *change = count(&full.rows) - count(&kept);
     }
     if answer != Ok(expected) {
         return Err(format!("recheck: (stop, changes) is {answer:?} and {expected:?}"));
@@ -121,7 +129,7 @@ fn failed_attempts(config: &Config, cycle: u32, word: u64, wires: u32) -> Vec<u3
 }
 
 /// The wire of a port that is bit `bit` of its value.
-fn wire(port: Range, bit: u32) -> u32 {
+fn wire(port: plain::Range, bit: u32) -> u32 {
     let right = u32::from(port.right);
     if port.left >= port.right {
         right + bit

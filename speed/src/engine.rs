@@ -21,10 +21,10 @@ impl Record {
         Record { rows: vec![0; entries], words: vec![0; entries] }
     }
 
-    /// The rows given, and words that no checker leaves: a recheck finds none of its own among them, and never stops early.
-    pub fn make_false(&mut self, rows: &[u32]) {
-        self.rows.copy_from_slice(rows);
-        self.words.fill(u64::MAX);
+    /// The rows and words of another record of as many entries.
+    pub fn copy_from(&mut self, other: &Record) {
+        self.rows.copy_from_slice(&other.rows);
+        self.words.copy_from_slice(&other.words);
     }
 }
 

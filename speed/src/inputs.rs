@@ -1,6 +1,6 @@
 //! What is timed: the traces, made from a seed, and the checkers that run over them.
 use crate::engine::{Engine, Plain, Record};
-use crate::plain::{self, fails, Config, Port, Range, ENABLE, FATAL, GOES_ON, STOPPED};
+use crate::plain::{self, fails, Config, Port, Range, ENABLE, FATAL, GOES_ON, HELD, STABILITY, STOPPED, STORED, TRANSITION};
 use std::borrow::Cow;
 use std::rc::Rc;
 use std::slice;
@@ -35,6 +35,7 @@ const MIDDLE: usize = CYCLES / 2;
 
 const BESIDE_RUST: [&str; 2] = ["proved ns/step", "plain ns/step"];
 const RECHECKS: [&str; 2] = ["recheck ns", "full check ns"];
+const ONE_CYCLE: [&str; 2] = ["recheck ns", "read words ns"];
 const LISTS: [&str; 2] = ["list pass ns", "full check ns"];
 
 /// The inputs that are held against the same yardstick, and the names of the columns of time and yardstick.
@@ -59,6 +60,9 @@ pub enum Call {
     Bench,
     /// A recheck for each checker, on the cycles of its full check. It starts from a false record and goes through them all.
     Recheck,
+    /// A recheck of the last cycle alone for each checker, on the true record: nearly all that it does is the test of the
+    /// kept words.
+    OneCycle,
     /// The failure list for each checker, on the cycles of its full check.
     List,
     /// The failure list for each checker, on a trace of its own where one of so many cycles fails, or none does.
@@ -79,10 +83,9 @@ impl Input {
         if self.checkers.iter().all(|config| config.severity != FATAL) {
             return None;
         }
-        let mut record = Record::new(CYCLES);
         let mut stopped = 0;
         for (k, config) in self.checkers.iter().enumerate() {
-            Plain.full_check(config, &self.frames(k), &mut record).expect("every input's configuration is good");
+            let record = true_record(config, &self.frames(k));
             stopped += record.words.iter().filter(|word| **word == STOPPED).count();
         }
         Some(stopped as f64 / (CYCLES * self.checkers.len()) as f64)
@@ -111,6 +114,7 @@ pub fn tables() -> Vec<Table> {
         Table { columns: BESIDE_RUST, inputs: checks },
         Table { columns: BESIDE_RUST, inputs: bus_inputs() },
         Table { columns: RECHECKS, inputs: all("recheck, ", Call::Recheck) },
+        Table { columns: ONE_CYCLE, inputs: all("recheck of a cycle, ", Call::OneCycle) },
         Table { columns: LISTS, inputs: lists },
     ];
     tables.extend(fatal_tables(&trace));
@@ -131,6 +135,7 @@ fn fatal_tables(usual: &Rc<[u32]>) -> Vec<Table> {
     vec![
         Table { columns: BESIDE_RUST, inputs: checks },
         Table { columns: RECHECKS, inputs: inputs("fatal recheck", Call::Recheck, &groups) },
+        Table { columns: ONE_CYCLE, inputs: inputs("fatal recheck of a cycle", Call::OneCycle, &groups) },
         Table { columns: LISTS, inputs: inputs("fatal list", Call::List, &groups) },
     ]
 }
@@ -282,13 +287,31 @@ pub fn cut(trace: &[u32], from: usize, length: usize) -> &[u32] {
     &trace[4 * from..4 * (from + length)]
 }
 
-/// The rows of the false record that checker k's recheck starts from: those of the trace one cycle later. They are like its
-/// own and differ in many cycles; for a fatal checker they are those of one that goes on, which are not 0 to the end.
-pub fn kept_rows(config: &Config, trace: &[u32], k: usize) -> Vec<u32> {
-    let config = Config { severity: GOES_ON, ..*config };
+/// The false record that checker k's recheck starts from. Its rows are those of the trace one cycle later: they are like its
+/// own and differ in many cycles; for a fatal checker they are those of one that goes on, which are not 0 to the end. Its
+/// words are possible and in no cycle the checker's own, so that the recheck never stops early.
+pub fn false_record(config: &Config, trace: &[u32], k: usize) -> Record {
+    let mut record = true_record(&Config { severity: GOES_ON, ..*config }, cut(trace, k + 1, CYCLES));
+    let own = true_record(config, cut(trace, k, CYCLES));
+    record.words = own.words.iter().map(|word| another_word(config, *word)).collect();
+    record
+}
+
+/// The record that a full check leaves.
+pub fn true_record(config: &Config, trace: &[u32]) -> Record {
     let mut record = Record::new(CYCLES);
-    Plain.full_check(&config, cut(trace, k + 1, CYCLES), &mut record).expect("every input's configuration is good");
-    record.rows
+    Plain.full_check(config, trace, &mut record).expect("every input's configuration is good");
+    record
+}
+
+/// A possible word other than the one given. Every input's windows have a cycle after their trigger.
+fn another_word(config: &Config, word: u64) -> u64 {
+    match config.kind {
+        _ if word != 0 => 0,
+        TRANSITION => STORED,
+        STABILITY if config.min == 0 => HELD + 1,
+        _ => 1,
+    }
 }
 
 /// A trace of 65,536 cycles for the checker's failure list, of which about one in so many fails, or none.

@@ -22,9 +22,9 @@ const FIRST_NO_PIPE: u8 = 2;
 const IGNORE_NEW_START: u8 = 3;
 const RESET_ON_NEW_START: u8 = 4;
 const ERROR_ON_NEW_START: u8 = 5;
-const TRANSITION: u8 = 6;
+pub const TRANSITION: u8 = 6;
 const VALUE: u8 = 7;
-const STABILITY: u8 = 8;
+pub const STABILITY: u8 = 8;
 
 pub const FAILURE: u32 = 1;
 pub const ILLEGAL: u32 = 2;
@@ -37,10 +37,10 @@ const MOST_CHECKERS: usize = 64;
 const LONGEST_WINDOW: u32 = 65_535;
 
 /// A transition's open word is 0, or this plus the stored next state.
-const STORED: u64 = 1 << 32;
+pub const STORED: u64 = 1 << 32;
 
 /// A stability window that has its reference adds this to the open word, and the reference from bit `REFERENCE` up.
-const HELD: u64 = 1 << 48;
+pub const HELD: u64 = 1 << 48;
 const REFERENCE: u32 = 16;
 
 pub const GOES_ON: u8 = 0;

@@ -17,7 +17,7 @@ type Check = unsafe extern "C" fn(
 type Recheck = unsafe extern "C" fn(
     u8, u32, u8, u8, u8, u8, u8, u8, u32, u32, u8, *const u32, usize, *mut u32, usize, *mut u64, usize,
     u64, u64, *mut i32, usize,
-) -> u32;
+) -> u64;
 type Failures =
     unsafe extern "C" fn(u8, u32, u8, u8, u8, u8, u8, u8, u32, u32, u8, *const u32, usize, *mut u32, usize) -> u64;
 type Bench = unsafe extern "C" fn(*const Config, usize, *const u32, usize, *mut u64, usize, *mut u32, usize) -> u32;
@@ -67,14 +67,14 @@ impl Library {
         let Record { rows, words } = record;
         let mut answer = [0; 6];
         #[rustfmt::skip]
-        let refusal = unsafe {
+        let answered = unsafe {
             (self.recheck)(
                 kind, n, p.left, p.right, q.left, q.right, r.left, r.right, min, value, severity,
                 trace.as_ptr(), trace.len(), rows.as_mut_ptr(), rows.len(), words.as_mut_ptr(), words.len(),
                 edit.start as u64, edit.end as u64, answer.as_mut_ptr(), answer.len(),
             )
         };
-        done(refusal).map(|()| answer)
+        done((answered >> 32) as u32).map(|()| answer)
     }
 
     /// The failure list: the number of its entries, of three words each.

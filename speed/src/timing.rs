@@ -1,9 +1,10 @@
 //! How long the calls take: the best of many rounds, in which the calls that are held against each other take turns.
 use crate::engine::{Engine, Plain, Record};
-use crate::inputs::{cut, kept_rows, Call, Input, BENCH, CYCLES, LIST};
+use crate::inputs::{cut, false_record, true_record, Call, Input, BENCH, CYCLES, LIST};
 use crate::plain::{fails, Config};
 use crate::proved::Library;
 use std::hint::black_box;
+use std::ops::Range;
 use std::time::{Duration, Instant};
 
 /// Each call is timed so often, or more often until so much time is over, and the best is taken: what else the machine does
@@ -21,7 +22,8 @@ const WARMING: usize = 2;
 pub struct Times {
     /// Of each library, in the order given.
     pub libraries: Vec<f64>,
-    /// What the first library is held against: ordinary Rust or, for a recheck or a list, its own full check.
+    /// What the first library is held against: ordinary Rust; for a recheck or a list its own full check; for a recheck of one
+    /// cycle the kept words read once.
     pub yardstick: f64,
     /// Of a list's trace, the share of the cycles that fail.
     pub failing: Option<f64>,
@@ -39,7 +41,7 @@ type Timed<'a> = Box<dyn Fn(&mut Memory) + 'a>;
 pub fn times(input: &Input, libraries: &[Library], plan: Plan) -> Times {
     match input.call {
         Call::FullCheck | Call::Bench => all_at_once(input, libraries, plan),
-        Call::Recheck | Call::List | Call::OwnList { .. } => one_by_one(input, libraries, plan),
+        Call::Recheck | Call::OneCycle | Call::List | Call::OwnList { .. } => one_by_one(input, libraries, plan),
     }
 }
 
@@ -68,13 +70,14 @@ fn one_by_one(input: &Input, libraries: &[Library], plan: Plan) -> Times {
     for (k, config) in input.checkers.iter().enumerate() {
         let best = match input.call {
             Call::Recheck => recheck_times(config, &input.trace, k, libraries, &mut memory, plan),
+            Call::OneCycle => one_cycle_times(config, cut(&input.trace, k, CYCLES), libraries, &mut memory, plan),
             _ => list_times(config, &input.frames(k), libraries, &mut memory, plan),
         };
         sums.iter_mut().zip(best).for_each(|(sum, best)| *sum += best);
         failing += memory.record.rows.iter().filter(|row| fails(**row)).count();
     }
     let mut times = per_step(&sums, CYCLES * checkers);
-    if !matches!(input.call, Call::Recheck) {
+    if matches!(input.call, Call::List | Call::OwnList { .. }) {
         // A list goes over the trace twice, once to count and once to write.
         times.libraries.iter_mut().for_each(|time| *time /= 2.0);
         times.failing = Some(failing as f64 / (CYCLES * checkers) as f64);
@@ -90,12 +93,28 @@ fn recheck_times(
     memory: &mut Memory,
     plan: Plan,
 ) -> Vec<Duration> {
-    let kept = kept_rows(config, trace, k);
+    let kept = false_record(config, trace, k);
     let trace = cut(trace, k, CYCLES);
-    let mut calls: Vec<Timed> = libraries.iter().map(|library| recheck(library, config, trace)).collect();
+    let mut calls: Vec<Timed> = libraries.iter().map(|library| recheck(library, config, trace, 0..1)).collect();
     calls.push(full_check(&libraries[0], config, trace));
     // Before the full check as well, so that both find the record in the same state of the cache.
-    best_times(&calls, |memory| memory.record.make_false(&kept), memory, plan)
+    best_times(&calls, |memory| memory.record.copy_from(&kept), memory, plan)
+}
+
+fn one_cycle_times(config: &Config, trace: &[u32], libraries: &[Library], memory: &mut Memory, plan: Plan) -> Vec<Duration> {
+    let edit = CYCLES - 1..CYCLES;
+    let mut calls: Vec<Timed> = libraries.iter().map(|library| recheck(library, config, trace, edit.clone())).collect();
+    calls.push(Box::new(|memory| {
+        black_box(read(black_box(&memory.record.words)));
+    }));
+    memory.record.copy_from(&true_record(config, trace));
+    best_times(&calls, |_| (), memory, plan)
+}
+
+/// All the words, each once, and nothing but the loads and one operation a word.
+#[inline(never)]
+fn read(words: &[u64]) -> u64 {
+    words.iter().fold(0, |all, word| all | word)
 }
 
 fn list_times(config: &Config, trace: &[u32], libraries: &[Library], memory: &mut Memory, plan: Plan) -> Vec<Duration> {
@@ -159,10 +178,10 @@ fn bench<'a>(engine: &'a dyn Engine, checkers: &'a [Config], trace: &'a [u32]) -
     })
 }
 
-/// From cycle 0, and with cycle 0 alone edited: so in all later cycles it looks whether it can stop.
-fn recheck<'a>(library: &'a Library, config: &'a Config, trace: &'a [u32]) -> Timed<'a> {
+/// Where cycle 0 alone is edited, in all later cycles it looks whether it can stop.
+fn recheck<'a>(library: &'a Library, config: &'a Config, trace: &'a [u32], edit: Range<usize>) -> Timed<'a> {
     Box::new(move |memory| {
-        let answer = library.recheck(black_box(config), black_box(trace), &mut memory.record, 0..1);
+        let answer = library.recheck(black_box(config), black_box(trace), &mut memory.record, black_box(edit.clone()));
         black_box((answer, memory)).0.expect("done when compared");
     })
 }

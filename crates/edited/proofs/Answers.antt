@@ -21,11 +21,11 @@ use Rattle.edited.specs.Edits.{Stored, NotDone, Replaced}
 abbrev zeros : List ℤ
 zeros = replicate marks (pos 0)
 
-not-done : {n r : ℕ} → r ≡ n → NotDone n r 0 zeros
-not-done e = record { refusal-is = e; end-is = refl; changes-are = λ i h. getD-replicate marks i (pos 0) (pos 0) h }
+not-done : {n r : ℕ} → r ≡ n → NotDone n r 0 0 zeros
+not-done e = record { refusal-is = e; cycle-is = refl; end-is = refl; changes-are = λ i h. getD-replicate marks i (pos 0) (pos 0) h }
 
 module _ {c : Config} {old rows₀ words₀ rows words : List ℕ} {r : ℕ} (check : CheckAnswer c old rows₀ words₀ rows words r) where
-  pub refused : {t : ℕ} {f : Frame} → (r ≡ 0 → ⊥) → Replaced c old rows₀ words₀ t f old rows words r 0 zeros
+  pub refused : {t : ℕ} {f : Frame} → (r ≡ 0 → ⊥) → Replaced c old rows₀ words₀ t f old rows words r 0 0 zeros
   refused h = record {
     done = λ z _. absurd (h (check .refusal-is ∙ z));
     refused = λ _. (not-done (check .refusal-is), refl, check .rows-kept h, check .words-kept h);
@@ -36,7 +36,7 @@ module _ {c : Config} {old rows₀ words₀ rows words : List ℕ} {r : ℕ} (ch
     accepted : checkRefusal c old rows₀ words₀ ≡ 0
     accepted = sym (check .refusal-is) ∙ z
 
-    pub no-cycle : {t : ℕ} {f : Frame} → length rows ≤ t → Replaced c old rows₀ words₀ t f old rows words 6 0 zeros
+    pub no-cycle : {t : ℕ} {f : Frame} → length rows ≤ t → Replaced c old rows₀ words₀ t f old rows words 6 0 0 zeros
     no-cycle h = record {
       done = λ _ k. absurd (omega (arith, check .done z .rows-length));
       refused = λ n. absurd (n accepted);
@@ -47,13 +47,14 @@ module _ {c : Config} {old rows₀ words₀ rows words : List ℕ} {r : ℕ} (ch
     has-cycle h = omega (arith, check .done z .rows-length)
 
     -- the recheck's demand, for the old trace
-    pub done : {t : ℕ} {f : Frame} {trace rows′ words′ : List ℕ} {refusal e : ℕ} {changes : List ℤ} → t < length rows → Stored old trace t f
-        → RecheckAnswer c trace rows words t (t + 1) rows′ words′ refusal e changes → Replaced c old rows₀ words₀ t f trace rows′ words′ refusal e changes
+    pub done : {t : ℕ} {f : Frame} {trace rows′ words′ : List ℕ} {refusal cycle e : ℕ} {changes : List ℤ} → t < length rows → Stored old trace t f
+        → RecheckAnswer c trace rows words t (t + 1) rows′ words′ refusal cycle e changes → Replaced c old rows₀ words₀ t f trace rows′ words′ refusal cycle e changes
     unfolding frames traceFits
     done {trace = trace} h put answer =
         let ok = check-accepted c old rows₀ words₀ accepted in
         let same = put .edited .same-length in
         let fits : T (traceFits trace) = rw same at (ok .fits) in
+        let met = rw add-one at (answer .demand (ok .good) fits (omega arith) (omega (arith, has-cycle h)) old (rw add-one (put .edited)) (check .done z)) in
         record {
           done =
               λ _ _.
@@ -62,9 +63,8 @@ module _ {c : Config} {old rows₀ words₀ rows words : List ℕ} {r : ℕ} (ch
                 old-rows = rows;
                 old-words = words;
                 old-record = check .done z;
-                demanded =
-                    rw add-one at
-                    (answer .demand (ok .good) fits (omega arith) (omega (arith, has-cycle h)) old (rw add-one (put .edited)) (check .done z));
+                demanded = met;
+                names-none = answer .tested .named .otherwise (λ n. absurd (omega (arith, met .not-refused)));
               };
           refused = λ n. absurd (n accepted);
           no-cycle = λ _ k. absurd (omega (arith, has-cycle h));

@@ -32,12 +32,13 @@ pub fn replace_frame(
     t: usize,
     frame: Frame,
 ) -> RecheckResult
-    ensures { λ r. ⌜ Replaced c (now (trace .entry)) (now (rows .entry)) (now (words .entry)) t frame (now (trace .exit)) (now (rows .exit)) (now (words .exit)) (r .refusal) (r .end) (r .changes) ⌝ }
+    ensures { λ r. ⌜ Replaced c (now (trace .entry)) (now (rows .entry)) (now (words .entry)) t frame (now (trace .exit)) (now (rows .exit)) (now (words .exit)) (r .refusal) (r .cycle) (r .end) (r .changes) ⌝ }
 {
     let refused = full_check(c, trace, rows, words);
     if refused != 0 {
         return RecheckResult {
             refusal: refused,
+            cycle: 0,
             end: 0,
             changes: [0; MARKS],
         };
@@ -45,6 +46,7 @@ pub fn replace_frame(
     if rows.len() <= t {
         return RecheckResult {
             refusal: 6,
+            cycle: 0,
             end: 0,
             changes: [0; MARKS],
         };

@@ -1,17 +1,16 @@
-// The recheck's end and changes in a lent slice.
+// The recheck's end and changes in a lent slice, and its refusal and the cycle of an impossible word in one number.
 use lengths::lengths_refusal;
 use recheck::recheck;
 use rules::Config;
 use rules::MARKS;
+use stored_changes::store_changes;
 ghost use mathlib.Core.Path.{_≡_};
-ghost use mathlib.Core.List.{_∷_};
-ghost use Prim.Native.Nat.{suc};
-ghost use lib.ListN.{length};
-ghost use Rattle.rules.specs.Rules.{marks};
+ghost use Prim.Native.Nat.{_/_, _%_, _<_};
 ghost use Rattle.lent_changes.specs.Answers.{HostRecheck};
 
-// The recheck after an edit of cycles a to b-1. Answers the refusal number or 0; not refused, the lent numbers become the cycle where it ended and the change
-// of each mark. Refusals 1 to 7, 5 also where not one number more than there are marks is lent; refused: all is as it was.
+// The recheck after an edit of cycles a to b-1. Answers 2^32 times the refusal and, where that is 7, the lowest cycle whose word is impossible; not refused, the
+// lent numbers become the cycle where it ended and the change of each mark. Refusals 1 to 7, 5 also where not one number more than there are marks is lent;
+// refused: all is as it was.
 pub fn recheck_into(
     config: Config,
     trace: &[u32],
@@ -20,29 +19,30 @@ pub fn recheck_into(
     a: u64,
     b: u64,
     answer: &mut [i32],
-) -> u32
-    ensures { λ refusal. ⌜ HostRecheck config (now (trace .entry)) (now (rows .entry)) (now (words .entry)) a b (now (answer .entry)) (now (rows .exit)) (now (words .exit)) (now (answer .exit)) refusal ⌝ }
+) -> u64
+    ensures { λ r. ⌜ HostRecheck config (now (trace .entry)) (now (rows .entry)) (now (words .entry)) a b (now (answer .entry)) (now (rows .exit)) (now (words .exit)) (now (answer .exit)) (r / 4294967296) (r % 4294967296) ⌝ }
 {
     if answer.len() != 1 + MARKS {
         let refused = lengths_refusal(config, trace.len(), rows.len(), words.len());
-        return if refused == 0 { 5 } else { refused };
+        return if refused == 0 {
+            packed(5, 0)
+        } else {
+            packed(refused, 0)
+        };
     }
     let result = recheck(config, trace, rows, words, a as usize, b as usize);
     if result.refusal != 0 {
-        return result.refusal;
+        return packed(result.refusal, result.cycle);
     }
     let changes = result.changes;
     store_changes(answer, result.end as i32, changes);
     0
 }
 
-// The end, and behind it the changes in their order.
-fn store_changes(answer: &mut [i32], end: i32, changes: [i32; MARKS])
-    requires { ⌜ (length (now answer) ≡ suc marks) × (length changes ≡ marks) ⌝ }
-    ensures { λ _. ⌜ now (answer .exit) ≡ end ∷ changes ⌝ }
+// The refusal and the cycle in one number.
+fn packed(refusal: u32, cycle: usize) -> u64
+    requires { ⌜ cycle < 4294967296 ⌝ }
+    ensures { λ r. ⌜ (r / 4294967296 ≡ refusal) × (r % 4294967296 ≡ cycle) ⌝ }
 {
-    answer[0] = end;
-    for i in 0..MARKS {
-        answer[1 + i] = changes[i];
-    }
+    0x1_0000_0000 * refusal as u64 + cycle as u64
 }

@@ -1,5 +1,6 @@
 -- Demand 3. The words of the rules follow a trace's frames by the step, so the laws of runs apply to them: what a recheck writes makes the old trace's true
--- record that of the edited one. The changes over all rows are those over the rows written, since the others are as they were. Assumes nothing.
+-- record that of the edited one. The changes over all rows are those over the rows written, since the others are as they were. Each word of the rules is
+-- possible, so a true record has no other. Assumes nothing.
 use Prim.Native.Nat.{ℕ, zero, suc, _+_, _/_, _≤_, zero-le}
 use mathlib.Core.Path.{_≡_, refl, sym, ap, ap₂, _∙_}
 use mathlib.Core.Bool.{true, false}
@@ -9,24 +10,25 @@ use native.Mathlib.Omega.{arith}
 use borrow.Author.Tests.{lt-ltb, le-ltb, ltb-true, ltb-false, le-leb, eq-eqb}
 use lib.Dec.{T, ltb}
 use lib.IntN.{ℤ, subℕ, pos, negsuc}
-use lib.ListN.{length}
-use Rattle.bits.proofs.Tests.{is-true, either}
+use lib.ListN.{length, getD}
+use Rattle.bits.proofs.Tests.{is-true, either, every-intro}
 use Rattle.rules.specs.declared.config.Config.{Config}
 use Rattle.rules.specs.Config.{configRefusal, Good}
 use Rattle.rules.specs.Frame.{Trace}
 use Rattle.rules.specs.Rules.{wordBefore}
 use Rattle.rules.specs.Step.{stepRow, stepWord}
 use Rattle.rules.specs.Possible.{possible}
-use Rattle.rules.proofs.Claims.{step-is-rules}
-use Rattle.rules.proofs.Reached.{before-possible}
+use Rattle.rules.proofs.Claims.{step-is-rules, words-possible}
 use Rattle.trace.specs.Traces.{frames, frameAt, traceFits}
 use Rattle.trace.specs.Runs.{keptAt, Written}
 use Rattle.halves.specs.Rows.{marksIn}
 use Rattle.counts.specs.Counts.{change}
 use Rattle.lengths.specs.Lengths.{recordFits}
+use Rattle.kept_words.specs.Spoiled.{allPossible}
 use Rattle.record.specs.Records.{TrueRecord}
 use Rattle.resume.specs.Resumes.{ownWord, ownRow}
-use Rattle.recheck.specs.Rechecks.{recheckRefusal, Rechecked, Edited, Demanded}
+use Rattle.recheck_refusals.specs.Refusals.{recheckRefusal}
+use Rattle.recheck.specs.Rechecks.{Rechecked, Edited, Demanded}
 use Rattle.trace.proofs.Runs.{run-steps, Follows, Edit, true-ends, true-entries}
 use Rattle.halves.proofs.Counted.{marks-same, marks-split}
 
@@ -65,6 +67,15 @@ changes-same f a e n i rows rows′ low high w = sym (ap₂ subℕ new (all rows
         ∙ ap₂ (λ (x y : ℕ). marksIn rows′ i a e + (x + y)) (marks-same rows′ rows i 0 a (λ t _ h. w .below t h))
         (marks-same rows′ rows i e n (λ t h _. w .beyond t h))
 
+-- ---- document 02, §6: "Show that records of a full check are never refused for this."
+
+-- a trace's true record, which a full check leaves, has no word that is impossible
+pub true-possible : (c : Config) → Good c → (trace rows words : List ℕ) → TrueRecord c trace rows words → T (allPossible c words)
+unfolding allPossible
+true-possible c good trace rows words was =
+    every-intro (length words) (λ t. possible c (getD words t 0))
+    (λ t h. rw (was .words-are t (omega (arith, was .words-length))) (words-possible c good (frameAt trace) t))
+
 -- ---- demand 3
 
 same-frames : {old trace : List ℕ} {a b : ℕ} → Edited old trace a b → frames old ≡ frames trace
@@ -89,8 +100,7 @@ demand-accepted c good trace rows words a b fits low high old edited was =
       eq-eqb (length words) (frames trace) (was .words-length ∙ same-frames edited),
       le-leb a b low,
       le-leb b (frames trace) high,
-      kept-words edited was a (omega arith),
-      is-true (possible c (wordBefore c (frameAt old) a)) (before-possible c good (frameAt old) a),
+      is-true (allPossible c words) (true-possible c good old rows words was),
     )
 
 module _

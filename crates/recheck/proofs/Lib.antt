@@ -1,4 +1,3 @@
 -- Why the recheck leaves what demand 3 asks for.
-pub mod Signed
 pub mod Demand
 pub mod Answers

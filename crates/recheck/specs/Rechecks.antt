@@ -1,30 +1,19 @@
--- The recheck and demand 3, from document 01, "What the viewer calls" and "The words of demand 3". Assumes nothing.
+-- The recheck and demand 3, from document 01, "What the viewer calls" and "The words of demand 3", and document 02, §6. Assumes nothing.
 use Prim.Native.Nat.{ℕ, suc, _≤_, _<_}
 use mathlib.Core.Path.{_≡_}
-use mathlib.Core.Bool.{_&&_, cond}
 use mathlib.Core.List.{List}
-use lib.Dec.{T, eqb, leb}
+use lib.Dec.{T}
 use lib.IntN.{ℤ, pos}
 use lib.ListN.{length, getD}
 use Rattle.rules.specs.declared.config.Config.{Config}
-use Rattle.rules.specs.Config.{configRefusal, Good}
+use Rattle.rules.specs.Config.{Good}
 use Rattle.rules.specs.Rules.{marks, wordBefore}
-use Rattle.rules.specs.Possible.{possible}
 use Rattle.trace.specs.Traces.{frames, frameAt, traceFits}
 use Rattle.trace.specs.Runs.{keptAt, Ends, Written}
 use Rattle.counts.specs.Counts.{change}
-use Rattle.lengths.specs.Lengths.{recordFits}
+use Rattle.recheck_refusals.specs.Refusals.{Refused}
 use Rattle.record.specs.Records.{TrueRecord}
 use Rattle.resume.specs.Resumes.{ownWord, ownRow}
-
--- refusals 1 to 7, in that order: "6: a above b, or b above N", "7: the word to go on from is not possible"
-unfoldable pub recheckRefusal : Config → List ℕ → List ℕ → List ℕ → ℕ → ℕ → ℕ
-recheckRefusal c trace rows words a b =
-    cond (eqb (configRefusal c) 0)
-    (cond (traceFits trace)
-    (cond (recordFits trace rows words) (cond (leb a b && leb b (frames trace)) (cond (possible c (keptAt words a)) 0 7) 6) 5)
-    4)
-    (configRefusal c)
 
 -- What a recheck that is not refused does to any rows and words: "e and the entries from a to e−1 are those that Recheck above gives", and nothing else
 -- is altered. The changes are over a to e−1, "which is also that over all N rows".
@@ -56,12 +45,14 @@ pub record Demanded (c : Config) (old trace rows : List ℕ) (b : ℕ) (rows′ 
   pub ends : Ends (wordBefore c (frameAt trace)) (wordBefore c (frameAt old)) b (frames trace) e
   pub changes-are : (i : ℕ) → i < marks → getD changes i (pos 0) ≡ change rows′ rows i 0 (frames trace)
 
--- The recheck: one contract for any rows and words handed in, and demand 3 for every old trace whose true record they are.
+-- The recheck: one contract for any rows and words handed in, and demand 3 for every old trace whose true record they are. "Records of a full check are
+-- never refused for this": not with 7, whatever the trace is that they are the true record of.
 pub record RecheckAnswer
-    (c : Config) (trace rows words : List ℕ) (a b : ℕ) (rows′ words′ : List ℕ) (refusal e : ℕ) (changes : List ℤ) : Type 0 where
-  pub refusal-is : refusal ≡ recheckRefusal c trace rows words a b
+    (c : Config) (trace rows words : List ℕ) (a b : ℕ) (rows′ words′ : List ℕ) (refusal cycle e : ℕ) (changes : List ℤ) : Type 0 where
+  pub tested : Refused c trace rows words a b refusal cycle
   pub all-marks : length changes ≡ marks
   pub done : refusal ≡ 0 → Rechecked c trace rows words a b rows′ words′ e changes
   pub refused : (refusal ≡ 0 → ⊥) → NotRechecked rows words rows′ words′ e changes
+  pub never-spoiled : Good c → (old : List ℕ) → TrueRecord c old rows words → refusal ≡ 7 → ⊥
   pub demand : Good c → T (traceFits trace) → a ≤ b → b ≤ frames trace → (old : List ℕ) → Edited old trace a b → TrueRecord c old rows words
       → Demanded c old trace rows b rows′ words′ refusal e changes

@@ -13,14 +13,6 @@ pub fn number(n: u64) {
     io::print_decimal(STDOUT_FILENO, n);
 }
 
-// A name and a number on a line.
-pub fn line(name: &[u8], n: u64) {
-    text(name);
-    text(b" ");
-    number(n);
-    text(b"\n");
-}
-
 // A space and a number.
 fn spaced(n: u64) {
     text(b" ");
@@ -66,10 +58,14 @@ pub fn list(r: FailureCount, values: &[u32]) {
     numbers(b" list", values);
 }
 
-// A recheck's refusal, its end, and the changes of the marks 1, 2, 4, 8 and 16.
+// A recheck's refusal, with 7 the cycle whose word is impossible, its end, and the changes of the marks 1, 2, 4, 8 and 16.
 pub fn answer(r: RecheckResult) {
     text(b"refusal");
     spaced(r.refusal as u64);
+    if r.refusal == 7 {
+        text(b" cycle");
+        spaced(r.cycle as u64);
+    }
     text(b" end");
     spaced(r.end as u64);
     text(b" changes");

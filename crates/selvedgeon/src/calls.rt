@@ -47,8 +47,9 @@ pub extern "C" fn selvedgeon_check(
     full_check(config, trace, rows, words)
 }
 
-// The recheck after an edit of cycles a to b-1. Answers the refusal number or 0; not refused, the lent numbers become the cycle where it ended and the change
-// of each mark. Refusals 1 to 7, 5 also where not one number more than there are marks is lent; refused: all is as it was.
+// The recheck after an edit of cycles a to b-1. Answers 2^32 times the refusal and, where that is 7, the lowest cycle whose word is impossible; not refused, the
+// lent numbers become the cycle where it ended and the change of each mark. Refusals 1 to 7, 5 also where not one number more than there are marks is lent;
+// refused: all is as it was.
 #[no_mangle]
 pub extern "C" fn selvedgeon_recheck(
     kind: u8,
@@ -68,8 +69,8 @@ pub extern "C" fn selvedgeon_recheck(
     a: u64,
     b: u64,
     answer: &mut [i32],
-) -> u32
-    ensures { λ refusal. ⌜ HostRecheck (configOf kind n «p_left» «p_right» «q_left» «q_right» «r_left» «r_right» min value severity) (now (trace .entry)) (now (rows .entry)) (now (words .entry)) a b (now (answer .entry)) (now (rows .exit)) (now (words .exit)) (now (answer .exit)) refusal ⌝ }
+) -> u64
+    ensures { λ r. ⌜ HostRecheck (configOf kind n «p_left» «p_right» «q_left» «q_right» «r_left» «r_right» min value severity) (now (trace .entry)) (now (rows .entry)) (now (words .entry)) a b (now (answer .entry)) (now (rows .exit)) (now (words .exit)) (now (answer .exit)) (r / 4294967296) (r % 4294967296) ⌝ }
 {
     let config = config_of(
         kind,

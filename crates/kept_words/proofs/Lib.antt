@@ -1,0 +1,2 @@
+-- Laws of a search for an impossible word.
+pub mod Scans

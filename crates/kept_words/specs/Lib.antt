@@ -1,0 +1,2 @@
+-- What the contract of the lowest impossible word cites.
+pub mod Spoiled

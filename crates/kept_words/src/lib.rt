@@ -1,0 +1,4 @@
+// The lowest impossible word of a record.
+mod scan;
+
+pub use scan::first_impossible;

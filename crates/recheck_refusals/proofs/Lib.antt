@@ -1,0 +1,2 @@
+-- Laws of the refusal of a recheck.
+pub mod Refusals

@@ -1,0 +1,2 @@
+-- What the contract of the refusal of a recheck cites.
+pub mod Refusals

@@ -1,0 +1,5 @@
+// The refusals of a recheck.
+mod tests;
+
+pub use tests::Tested;
+pub use tests::recheck_refusal;

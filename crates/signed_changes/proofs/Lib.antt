@@ -1,0 +1,2 @@
+-- Laws of signed changes.
+pub mod Signed

@@ -1,0 +1,127 @@
+//! A second program for the rules of document 01 with §2 and §4 to §7 of document 02, and a comparison of the library with
+//! it on many inputs.
+//!
+//! SEED=n sets the seed; CASES=n or SECONDS=n how long to run; CASE=n runs one case alone.
+
+mod cases;
+mod fatal;
+mod generate;
+mod host;
+mod records;
+mod rules;
+mod small;
+mod spoiled;
+mod tally;
+mod whiteboard;
+mod windows;
+
+use cases::{Case, Longest, Size};
+use std::process::ExitCode;
+use std::time::{Duration, Instant};
+use tally::Tally;
+
+const DEFAULT_SEED: u64 = 20_260;
+const DEFAULT_CASES: u64 = 80_000;
+
+type CaseOf = fn(&mut Case) -> Result<(), String>;
+
+/// The calls take turns in this order; those with more to vary come more often.
+const TURNS: [CaseOf; 16] = [
+    cases::step,
+    cases::check,
+    cases::recheck,
+    cases::failures,
+    cases::step,
+    cases::check,
+    cases::recheck,
+    cases::bench,
+    cases::totals,
+    cases::recheck,
+    cases::open_count,
+    cases::failures,
+    cases::step,
+    cases::check,
+    cases::recheck,
+    cases::first_failure,
+];
+
+fn number(name: &str) -> Option<u64> {
+    let text = std::env::var(name).ok()?;
+    match text.parse() {
+        Ok(number) => Some(number),
+        Err(_) => panic!("{name}={text} is not a number"),
+    }
+}
+
+/// The greatest sizes are slow, so each comes once in 300 turns of a place in the order, and a longest window once in 120;
+/// the places are set apart.
+fn size(case: u64) -> Size {
+    let place = case % TURNS.len() as u64;
+    let turn = case / TURNS.len() as u64 + 19 * place;
+    if turn % 120 == 45 {
+        return Size::Longest(Longest::new(turn as usize / 120));
+    }
+    match turn % 300 {
+        100 => Size::Greatest,
+        200 => Size::TooLong,
+        290 => Size::WordMore,
+        _ => Size::Any,
+    }
+}
+
+fn run_case(seed: u64, case: u64, tally: &mut Tally) -> Result<(), String> {
+    let mut random = generate::Random::new(seed, case);
+    let careless = random.chance(64);
+    let mut input = Case { random, size: size(case), careless, tally };
+    TURNS[(case % TURNS.len() as u64) as usize](&mut input)
+        .map_err(|difference| format!("seed {seed}, case {case}: {difference}"))
+}
+
+/// Answers how many cases were run.
+fn run(seed: u64, tally: &mut Tally) -> Result<u64, String> {
+    let begin = Instant::now();
+    let seconds = number("SECONDS").map(Duration::from_secs);
+    let cases = number("CASES").unwrap_or(if seconds.is_some() { u64::MAX } else { DEFAULT_CASES });
+    let mut case = 0;
+    while case < cases && seconds.is_none_or(|most| begin.elapsed() < most) {
+        run_case(seed, case, tally)?;
+        case += 1;
+    }
+    Ok(case)
+}
+
+fn compare_all(seed: u64) -> Result<String, String> {
+    let mut tally = Tally::default();
+    if let Some(case) = number("CASE") {
+        run_case(seed, case, &mut tally)?;
+        return Ok(format!("second: case {case}, seed {seed}, equal"));
+    }
+    println!("{}", whiteboard::compare()?);
+    println!("small inputs: {}, all equal\n", small::compare()?);
+    let cases = run(seed, &mut tally)?;
+    tally.print();
+    let missed = tally.missed();
+    if !missed.is_empty() {
+        return Err(format!(
+            "{cases} cases, seed {seed}, all equal, but these had too few cases:\n  {}",
+            missed.join("\n  ")
+        ));
+    }
+    Ok(format!("\nsecond: {cases} cases, seed {seed}, all equal, none was missed"))
+}
+
+/// The whole program: `main.rs` calls it.
+pub fn compare() -> ExitCode {
+    let seed = number("SEED").unwrap_or(DEFAULT_SEED);
+    println!("second: seed {seed}");
+    match compare_all(seed) {
+        Ok(line) => {
+            println!("{line}");
+            ExitCode::SUCCESS
+        }
+        Err(difference) => {
+            println!("second: FAILED\n{difference}");
+            ExitCode::FAILURE
+        }
+    }
+}
