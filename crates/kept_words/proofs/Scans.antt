@@ -1,21 +1,27 @@
 -- A search for an impossible word, word by word and block by block. Assumes nothing.
-use Prim.Native.Nat.{ℕ, suc, _+_, _-_, _≤_, _<_}
+use Prim.Native.Nat.{ℕ, suc, _+_, _-_, _%_, _^_, _≤_, _<_}
 use mathlib.Core.Path.{_≡_, refl, sym, subst, _∙_}
 use mathlib.Core.Bool.{Bool, true, false, _&&_, _||_}
 use mathlib.Core.List.{List}
 use mathlib.Core.Logic.{⊎-elim}
 use native.Mathlib.Nat.{le-refl, le-of-suc-le-suc, eq-or-lt-of-le}
 use native.Mathlib.Omega.{arith}
-use borrow.Author.Tests.{ltb-true, ltb-false}
+use borrow.Author.Tests.{ltb-true, ltb-false, eq-eqb}
 use lib.Dec.{T, eqb, eqb→eq, ltb}
 use lib.ListN.{getD}
 use Rattle.bits.specs.Bits.{every}
-use Rattle.bits.proofs.Tests.{of-true, either, or-left, every-elim}
+use Rattle.bits.proofs.Tests.{of-true, either, iff-eq, or-left, every-elim}
 use Rattle.rules.specs.declared.config.Config.{Config}
 use Rattle.rules.specs.Config.{fatal}
 use Rattle.rules.specs.Rules.{stoppedWord}
 use Rattle.rules.specs.Possible.{goingPossible, canFail, possible}
 use Rattle.kept_words.specs.Spoiled.{FirstImpossible}
+
+-- the difference of a word to 2^63 is 0 where it is 2^63
+pub difference-zero : (w r : ℕ) → r < 2 ^ 64 → (r + stoppedWord) % 2 ^ 64 ≡ w → eqb r 0 ≡ eqb w stoppedWord
+difference-zero w r small e =
+    iff-eq (eqb r 0) (eqb w stoppedWord) (λ h. of-true (eq-eqb w stoppedWord (omega (arith, eqb→eq r 0 h))))
+    (λ h. of-true (eq-eqb r 0 (omega (arith, eqb→eq w stoppedWord h))))
 
 module _ (c : Config) (words : List ℕ) (from to : ℕ) where
   -- the words before t, from `from` on, are possible

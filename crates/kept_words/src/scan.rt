@@ -3,8 +3,9 @@ use misfits::misfit;
 use open_words::is_possible;
 use rules::Config;
 use rules::STOPPED;
+use std::num::wrapping_sub_u64;
 ghost use mathlib.Core.Path.{_≡_};
-ghost use Prim.Native.Nat.{ℕ, _+_, _≤_};
+ghost use Prim.Native.Nat.{ℕ, _+_, _≤_, _<_};
 ghost use lib.Dec.{eqb};
 ghost use lib.ListN.{length, getD};
 ghost use Rattle.bits.specs.Bits.{every};
@@ -34,16 +35,19 @@ pub fn first_impossible(c: Config, words: &[u64]) -> usize
     n
 }
 
-// The same of so many words from `from` on.
+// The same of so many words from `from` on. The first of them tells which of the two tests can pass them all.
 fn first_in_block(c: Config, words: &[u64], from: usize, count: usize) -> usize
-    requires { ⌜ (Good c) × (from + count ≤ length (now words)) ⌝ }
+    requires { ⌜ (Good c) × (0 < count) × (from + count ≤ length (now words)) ⌝ }
     ensures { λ r. ⌜ FirstImpossible c (now (words .entry)) from (from + count) r ⌝ }
 {
-    if misfits_in(c, words, from, count) == 0 {
-        return from + count;
-    }
-    if is_possible(c, STOPPED) & all_stopped(words, from, count) {
-        return from + count;
+    if words[from] == STOPPED {
+        if is_possible(c, STOPPED) & all_stopped(words, from, count) {
+            return from + count;
+        }
+    } else {
+        if misfits_in(c, words, from, count) == 0 {
+            return from + count;
+        }
     }
     first_by_one(c, words, from, from + count)
 }
@@ -66,11 +70,11 @@ fn all_stopped(words: &[u64], from: usize, count: usize) -> bool
     requires { ⌜ from + count ≤ length (now words) ⌝ }
     ensures { λ r. ⌜ r ≡ every count (λ (i : ℕ). eqb (getD (now (words .entry)) (from + i) 0) stoppedWord) ⌝ }
 {
-    let mut all = true;
+    let mut bits: u64 = 0;
     for i in 0..count {
-        all = all & (words[from + i] == STOPPED);
+        bits = bits | wrapping_sub_u64(words[from + i], STOPPED);
     }
-    all
+    bits == 0
 }
 
 // The lowest cycle of `from` to `to` - 1 whose word is impossible, or `to`.

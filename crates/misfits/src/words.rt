@@ -60,7 +60,7 @@ fn attempts_misfit(c: Config, word: u64) -> u64
     requires { ⌜ (Good c) × (family (c .kind) ≡ sequence) ⌝ }
     ensures { λ r. ⌜ eqb r 0 ≡ goingPossible c word ⌝ }
 {
-    let high = above(word, low_ones(c.n - 1), 32);
+    let high = word >> (c.n - 1);
     if c.kind == 2 {
         return high | second_one(word);
     }

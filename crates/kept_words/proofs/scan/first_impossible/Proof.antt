@@ -29,7 +29,7 @@ block : (c : tie.Joined1 Inv-loop μ-loop) → (0 < c .if1 .count) × (c .before
 block c = ⊎-elim (λ w. omega (arith, w .1)) (λ w. omega (arith, w .1)) (c .if1 .came)
 
 first-in-block-requires : tie.Need-first-in-block-requires Inv-loop μ-loop
-first-in-block-requires c κs = (c .before .before .before .before .pre, block c .1)
+first-in-block-requires c κs = (c .before .before .before .before .pre, block c .0, block c .1)
 
 add-if2 : tie.Need-add-if2 Inv-loop μ-loop
 add-if2 c = omega (arith, block (c .before .before))

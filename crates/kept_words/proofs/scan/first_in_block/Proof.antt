@@ -7,17 +7,11 @@ use borrow.Author.Needs.{needs}
 use Rattle.kept_words.proofs.scan.first_in_block.Statement.{statement}
 use Rattle.kept_words.proofs.scan.first_in_block.Tie as tie
 
-misfits-in-requires : tie.Need-misfits-in-requires
-misfits-in-requires c κs = search needs
+mul-if1 : tie.Need-mul-if1
+mul-if1 c = search needs
 
-add-result : tie.Need-add-result
-add-result c = search needs
-
-returns : tie.Need-returns
-returns c =
-    let a = c .before .before .before .args in
-    let m = c .before .misfits-in in
-    going-passed (a .c) (a .words .now) (a .from) (a .count) (sym (m .ensures) ∙ eq-eqb (m .result) 0 (c .if1 .taken))
+shared-slice-read-if1 : tie.Need-shared-slice-read-if1
+shared-slice-read-if1 c = search needs
 
 is-possible-requires : tie.Need-is-possible-requires
 is-possible-requires c κs = search needs
@@ -25,17 +19,30 @@ is-possible-requires c κs = search needs
 all-stopped-requires : tie.Need-all-stopped-requires
 all-stopped-requires c κs = search needs
 
-add-result-2 : tie.Need-add-result-2
-add-result-2 c = search needs
+add-result : tie.Need-add-result
+add-result c = search needs
 
-returns-2 : tie.Need-returns-2
-returns-2 c =
-    let a = c .before .before .before .before .before .before .args in
+returns : tie.Need-returns
+returns c =
+    let s = c .before .before .before .before .before .before in
+    let a = s .args in
     let all = c .before .all-stopped in
     let can = c .before .before .is-possible in
     let both = of-true (c .if2 .taken) in
     stopped-passed (a .c) (a .words .now) (a .from) (a .count) (sym (can .ensures) ∙ is-true (can .result) (and-left (can .result) (all .result) both))
     (sym (all .ensures) ∙ is-true (all .result) (and-right (can .result) (all .result) both))
+
+misfits-in-requires : tie.Need-misfits-in-requires
+misfits-in-requires c κs = search needs
+
+add-result-2 : tie.Need-add-result-2
+add-result-2 c = search needs
+
+returns-2 : tie.Need-returns-2
+returns-2 c =
+    let a = c .before .before .before .before .before .args in
+    let m = c .before .misfits-in in
+    going-passed (a .c) (a .words .now) (a .from) (a .count) (sym (m .ensures) ∙ eq-eqb (m .result) 0 (c .if3 .taken))
 
 add-first-by-one : tie.Need-add-first-by-one
 add-first-by-one c = search needs
@@ -50,11 +57,13 @@ pub first-in-block-spec : {M : Type 1} → statement M
 first-in-block-spec =
     tie.close
     (tie.spec
-    misfits-in-requires
-    add-result
-    returns
+    mul-if1
+    shared-slice-read-if1
     is-possible-requires
     all-stopped-requires
+    add-result
+    returns
+    misfits-in-requires
     add-result-2
     returns-2
     add-first-by-one

@@ -1,11 +1,8 @@
--- `misfits::words::above` meets its contract. Assumes nothing.
+-- `misfits::words::above` meets its contract: what is missing to the limit takes a word above it to the next place. Assumes nothing.
 use Rattle.misfits.proofs.Misfits.{above-is}
-use mathlib.Core.Path.{refl}
 use borrow.Author.Needs.{needs}
 use Rattle.misfits.proofs.words.above.Statement.{statement}
 use Rattle.misfits.proofs.words.above.Tie as tie
-use Rattle.misfits.proofs.words.above.Reads as reads
-use Rattle.misfits.proofs.words.above.Lts as lts
 
 low-ones-requires : tie.Need-low-ones-requires
 low-ones-requires c κs = search needs

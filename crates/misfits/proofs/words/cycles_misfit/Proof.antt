@@ -1,4 +1,4 @@
--- `misfits::words::cycles_misfit` meets its contract. Assumes nothing.
+-- `misfits::words::cycles_misfit` meets its contract: both numbers have 16 bits exactly where the cycles fit. Assumes nothing.
 use Prim.Native.Nat.{_*_, _/_, _%_, _^_, _≤_}
 use native.Mathlib.Nat.{mul-le-mul}
 use native.Mathlib.Omega.{arith}
@@ -6,8 +6,6 @@ use Rattle.misfits.proofs.Misfits.{cycles-are}
 use borrow.Author.Needs.{needs}
 use Rattle.misfits.proofs.words.cycles_misfit.Statement.{statement}
 use Rattle.misfits.proofs.words.cycles_misfit.Tie as tie
-use Rattle.misfits.proofs.words.cycles_misfit.Reads as reads
-use Rattle.misfits.proofs.words.cycles_misfit.Lts as lts
 
 -- the product is small: neither of its factors has more than 16 bits
 product : (s : tie.Start) → s .args .word / 2 ^ 48 * s .args .c .min ≤ 65535 * 65535

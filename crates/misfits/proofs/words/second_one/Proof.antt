@@ -1,11 +1,9 @@
--- `misfits::words::second_one` meets its contract. Assumes nothing.
+-- `misfits::words::second_one` meets its contract: without its lowest set bit a word has one less. Assumes nothing.
 use native.Mathlib.Omega.{arith}
 use Rattle.misfits.proofs.Misfits.{second-is}
 use borrow.Author.Needs.{needs}
 use Rattle.misfits.proofs.words.second_one.Statement.{statement}
 use Rattle.misfits.proofs.words.second_one.Tie as tie
-use Rattle.misfits.proofs.words.second_one.Reads as reads
-use Rattle.misfits.proofs.words.second_one.Lts as lts
 
 wrapping-sub-u64-requires : tie.Need-wrapping-sub-u64-requires
 wrapping-sub-u64-requires c κs = search needs

@@ -1,11 +1,9 @@
--- `misfits::words::untagged` meets its contract. Assumes nothing.
+-- `misfits::words::untagged` meets its contract: the number before the tag is all ones or 0. Assumes nothing.
 use native.Mathlib.Omega.{arith}
 use Rattle.misfits.proofs.Misfits.{untagged-is}
 use borrow.Author.Needs.{needs}
 use Rattle.misfits.proofs.words.untagged.Statement.{statement}
 use Rattle.misfits.proofs.words.untagged.Tie as tie
-use Rattle.misfits.proofs.words.untagged.Reads as reads
-use Rattle.misfits.proofs.words.untagged.Lts as lts
 
 shr-result : tie.Need-shr-result
 shr-result c = search needs
