@@ -1,4 +1,4 @@
-// The words of a record, a block at a time: a block that has only words of a checker that goes on, or only 2^63, is passed without a branch on any word.
+// The words of a record, a block at a time: a block that has only words of a checker that goes on, or only 2^63, is passed without a branch on any word but its first.
 use misfits::misfit;
 use open_words::is_possible;
 use rules::Config;

@@ -1,14 +1,14 @@
 -- Bits that are 0 exactly where a number is as it should be: where bits of two are put together, they are 0 where both are; what lies above a number's k
 -- lowest bits is 0 where it is below 2^k. A number without its lowest set bit has one set bit less. Assumes nothing.
 use Prim.Native.Nat.{ℕ, suc, _+_, _-_, _*_, _/_, _%_, _^_, _<_, _≤_, zero-le}
-use mathlib.Core.Path.{_≡_, refl, sym, ap, ap₂, _∙_}
+use mathlib.Core.Path.{_≡_, refl, ap, ap₂, _∙_}
 use mathlib.Core.Bool.{Bool, true, false, _&&_, _||_, or-false, and-false, and-true}
 use mathlib.Core.Logic.{⊎-elim}
 use native.Mathlib.Nat.{add-zero, lt-of-le-of-lt, mod-lt, mod-eq-of-lt, div-eq-of-lt, div-eq-of-lt-le, zero-mul, one-mul, add-mul, two-pow-succ}
 use native.Mathlib.Omega.{arith}
 use borrow.Author.Tests.{eq-eqb, ne-eqb, eqb-true, eqb-false, le-leb, lt-leb, leb-true, leb-false, lt-ltb, le-ltb, ltb-true, ltb-false}
-use lib.Bits.{bitAnd, bitOr, and-step, and-self, and-le-l, and-le-r, and-zero-l, and-zero-r, or-zero-l, or-add-and, or-shr, and-mask}
-use lib.Count.{ones, ones-step}
+use lib.Bits.{bitAnd, bitOr, and-le-l, and-le-r, and-zero-l, and-zero-r, or-add-and, or-shr, and-mask}
+use lib.Count.{ones}
 use lib.Dec.{T, eqb, leb, ltb, eqb→eq, lt→ltb, ltb→lt, leb→le, le→leb}
 use lib.Pow.{pow-pos, pow-mono, shr-le, split}
 use Rattle.bits.proofs.Ones.{ones-none, ones-less}

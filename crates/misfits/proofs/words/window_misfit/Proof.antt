@@ -1,7 +1,7 @@
 -- `misfits::words::window_misfit` meets its contract: at most 2^48 and the highest reference with 65,535 cycles left, below 2^48 a word without a reference,
 -- and the cycles left of each. Assumes nothing.
-use Prim.Native.Nat.{_+_, _-_, _*_, _^_, _≤_}
-use mathlib.Core.Path.{_≡_, refl, ap, _∙_}
+use Prim.Native.Nat.{_-_, _*_, _^_}
+use mathlib.Core.Path.{_≡_, _∙_}
 use mathlib.Core.Logic.{⊎-elim}
 use native.Mathlib.Omega.{arith}
 use lib.Dec.{eqb}
