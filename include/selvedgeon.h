@@ -1,9 +1,11 @@
 /*
  * Selvedgeon: OVL assertion checkers and UVVM's checks after a trigger, over a recorded trace.
  *
- * A trace is N frames of four 32-bit words, one frame a cycle: reset, P, Q, R. Bit 0 of the reset word is reset_n, and for
- * kinds 7 and 8 bit 1 is enable; bit w of a port's word is its wire w. A port is declared by a range [left:right] of wire
- * numbers 0 to 31, and its value is read in that order: the left wire is the most significant, and the right wire is bit 0.
+ * A trace is N frames of eight 32-bit words, one frame a cycle: reset, P, Q, R, and in the same order their unknown bits,
+ * reset_x, p_x, q_x, r_x. Bit 0 of the reset word is reset_n, and for kinds 7 and 8 bit 1 is enable; bit w of a port's word
+ * is its wire w. A 1 in an unknown word says that the wire of that bit is x or z; its value bit is then ignored. A port is
+ * declared by a range [left:right] of wire numbers 0 to 31, and its value is read in that order: the left wire is the most
+ * significant, and the right wire is bit 0.
  *
  * A checker is configured by eleven numbers: its kind, n (num_cks; for kinds 7 and 8 max), the left and right end of P, Q
  * and R, min, the expected value, and its severity: 0 goes on after a failure, 1 is fatal.
@@ -24,16 +26,38 @@
  *
  * Kinds 7 and 8 watch the tracked value P, of 1 to 32 wires, from min to max cycles after a trigger at s (Q 1 and enable 1),
  * 0 <= min <= max. Kind 7 fails in each enabled cycle of s+min to s+max where P is not the expected value, which fits the
- * width of P; kind 8 in each where P is not what it was in the first enabled cycle from s+min on. A cycle with enable 0
- * counts, but is not tested, and no trigger is seen in it. A failure does not end the window, and a trigger in s+1 to s+max
- * is ignored. Mark 4 is set at s, mark 8 at s+max.
+ * width of P; kind 8 in each where P is not its reference: what P was in the first enabled cycle from s+min on in which all
+ * its wires are known. A cycle with enable 0 counts, but is not tested, and no trigger is seen in it. A failure does not end
+ * the window, and a trigger in s+1 to s+max is ignored. Mark 4 is set at s, mark 8 at s+max.
  *
  * A fatal checker stops at the first cycle with mark 1 or 2. That cycle has all its marks. Its open word and all later ones
  * are SELVEDGEON_STOPPED, and all later rows are 0, also behind a reset. The failure list has the entries up to that cycle.
  *
+ * An unknown wire is no answer. Where a test needs one, the cycle gets mark 32: from this trace nobody can tell whether the
+ * test passed. Mark 32 is no failure: it is not in the failure list, it is no first failure, and it does not stop a fatal
+ * checker. A cycle has it once, for one reason or for several, and may have mark 1 too, where another check of that cycle
+ * fails. Only the wires in the range of a port that the kind uses count, and reset_n, and for kinds 7 and 8 enable. What an
+ * unknown wire does:
+ *
+ *     reset_n      It counts as reset.
+ *     enable       It counts as enable 0.
+ *     kinds 0..2   An unknown first event starts no attempt. Kinds 1 and 2: an unknown later event sets 32 and ends its
+ *                  attempt, and kind 2 ignores a start in that cycle too. Kind 0: an unknown last event sets 32; one before
+ *                  the last reads as 0, without a mark.
+ *     kinds 3..5   An unknown start is none: it opens no window, resets none, and is not illegal. An unknown test in an open
+ *                  window sets 32, and the window goes on. A start that resets the window takes no test, and so no 32.
+ *     kind 6       With an unknown wire in the test or in the start state, the start state is not seen. In the cycle after
+ *                  a start, an unknown wire in the test sets 32 and ends the check, whatever its other wires are. With one
+ *                  in the next state at a start, that cycle has the marks 4 and 32, and the next cycle is not checked.
+ *     kinds 7, 8   An unknown trigger is none. An unknown wire in P in a cycle that is tested sets 32, and the window goes
+ *                  on. For kind 8 that is so before there is a reference too, and such a cycle never gives it.
+ *
+ * A trace whose unknown words are all 0 has no mark 32.
+ *
  * A record is N rows of 32 bits and N open words of 64 bits. A row is the sum of its cycle's marks. An open word says which
  * checks are unfinished after its cycle; a word is possible for a configuration where some trace leaves it. So
- * SELVEDGEON_STOPPED is possible for each fatal checker that can fail: all but kind 8 with min equal to max.
+ * SELVEDGEON_STOPPED is possible for each fatal checker that can fail: all but kind 8 with min equal to max. The words 1 to
+ * max are possible for kind 8 with every min, also 0: a window with so many cycles left that has no reference yet.
  *
  * Every call answers every input. A refused call writes nothing. A pointer is not read where its length is 0. A lent
  * buffer that is written must not overlap another buffer of the same call.
@@ -50,11 +74,12 @@ extern "C" {
 
 /* the marks of a row */
 enum selvedgeon_mark {
-    SELVEDGEON_FAILURE = 1,   /* a check failed */
-    SELVEDGEON_ILLEGAL = 2,   /* an illegal start: a new start in an open window (kind 5) */
-    SELVEDGEON_OPENED = 4,    /* a trigger, a window opened (or reset: kind 4), or the start state seen */
-    SELVEDGEON_CLOSED = 8,    /* a window closed */
-    SELVEDGEON_RESTARTED = 16 /* a window reset by a new start (kind 4), always with mark 4: row 20 */
+    SELVEDGEON_FAILURE = 1,    /* a check failed */
+    SELVEDGEON_ILLEGAL = 2,    /* an illegal start: a new start in an open window (kind 5) */
+    SELVEDGEON_OPENED = 4,     /* a trigger, a window opened (or reset: kind 4), or the start state seen */
+    SELVEDGEON_CLOSED = 8,     /* a window closed */
+    SELVEDGEON_RESTARTED = 16, /* a window reset by a new start (kind 4), always with mark 4: row 20 */
+    SELVEDGEON_UNKNOWN = 32    /* a wire that is needed is unknown: neither pass nor failure */
 };
 
 /* the open word of a fatal checker that has failed */
@@ -74,7 +99,7 @@ enum selvedgeon_refusal {
                                      above 1 */
     SELVEDGEON_BAD_PORTS = 3,     /* an index above 31, a wrong width, an unused port that is not 0:0, or an expected value
                                      that does not fit P or is not 0 where it is unused */
-    SELVEDGEON_BAD_TRACE = 4,     /* the trace is no multiple of 4 words, or has more than 65,536 cycles */
+    SELVEDGEON_BAD_TRACE = 4,     /* the trace is no multiple of 8 words, or has more than 65,536 cycles */
     SELVEDGEON_BAD_LENGTH = 5,    /* another lent slice has not the length that is due */
     SELVEDGEON_BAD_RANGE = 6,     /* a is above b, or b above N */
     SELVEDGEON_BAD_WORD = 7,      /* the word to go on from is not possible; of a recheck: a kept word is not possible */
@@ -100,17 +125,18 @@ struct selvedgeon_config {
 };
 
 /*
- * One step on one frame. `word` is the open word in eight bytes, least significant first.
+ * One step on one frame, reset to r_x. `word` is the open word in eight bytes, least significant first.
  * Answers 256 times the refusal plus the cycle's row.
  * Writes: word (the next open word).
  * Refusals: 1, 2, 3; 5 where word_len is not 8; 7.
  */
 uint32_t selvedgeon_step(uint8_t kind, uint32_t n, uint8_t p_left, uint8_t p_right, uint8_t q_left, uint8_t q_right,
                          uint8_t r_left, uint8_t r_right, uint32_t min, uint32_t value, uint8_t severity, uint32_t reset,
-                         uint32_t p, uint32_t q, uint32_t r, uint8_t *word, size_t word_len);
+                         uint32_t p, uint32_t q, uint32_t r, uint32_t reset_x, uint32_t p_x, uint32_t q_x, uint32_t r_x,
+                         uint8_t *word, size_t word_len);
 
 /*
- * The full check of a trace of N cycles.
+ * The full check of a trace of N cycles, 8 N words.
  * Answers the refusal.
  * Writes: rows and words, N entries each (entry t is that of cycle t).
  * Refusals: 1, 2, 3, 4; 5 where rows_len or words_len is not N.
@@ -126,8 +152,8 @@ uint32_t selvedgeon_check(uint8_t kind, uint32_t n, uint8_t p_left, uint8_t p_ri
  * Answers 2^32 times the refusal plus a cycle: with refusal 7 the lowest whose kept word is not possible, else 0. So 0 is
  * done, and the refusal is in the upper half, which a 32-bit variable would lose.
  * Writes: rows and words of cycles a to e-1, where e, the cycle where the recheck stopped, is answer[0]; answer[1] to
- * answer[5] are by how much the counts of the marks 1, 2, 4, 8 and 16 changed.
- * Refusals: 1, 2, 3, 4; 5 where rows_len or words_len is not N or answer_len is not 6; 6; 7 where any of the kept words is
+ * answer[6] are by how much the counts of the marks 1, 2, 4, 8, 16 and 32 changed.
+ * Refusals: 1, 2, 3, 4; 5 where rows_len or words_len is not N or answer_len is not 7; 6; 7 where any of the kept words is
  * not possible, wherever a and b are. A record that selvedgeon_check or selvedgeon_recheck left for the same configuration
  * is never refused with 7.
  */
@@ -139,14 +165,14 @@ uint64_t selvedgeon_recheck(uint8_t kind, uint32_t n, uint8_t p_left, uint8_t p_
 /*
  * How many rows have each mark; other bits of a row are ignored.
  * Answers the refusal.
- * Writes: counts, of the marks 1, 2, 4, 8 and 16.
- * Refusals: 5 where counts_len is not 5, or for more than 65,536 rows.
+ * Writes: counts, of the marks 1, 2, 4, 8, 16 and 32.
+ * Refusals: 5 where counts_len is not 6, or for more than 65,536 rows.
  */
 uint32_t selvedgeon_totals(const uint32_t *rows, size_t rows_len, uint32_t *counts, size_t counts_len);
 
 /*
  * Every failure and illegal start of a trace: three words for each, its cycle, its mark (1 or 2) and its start, ordered by
- * cycle, mark and start.
+ * cycle, mark and start. Mark 32 has no entry.
  * Answers 2^32 times the refusal plus the number of entries.
  * Writes: the first three words for each entry of list; later words stay.
  * Refusals: 1, 2, 3, 4; 8 where the list is too short.
@@ -179,7 +205,7 @@ uint64_t selvedgeon_first_failure(uint64_t checkers, uint64_t cycles, const uint
  * is stepped.
  * Answers 256 times the refusal plus the number of the first bad checker (0 for refusals 9 and 5).
  * Writes: words (each checker's next open word) and rows.
- * Refusals: 9; 5 where frames_len is not 4 K, or words_len or rows_len is not K; then for each checker 1, 2, 3, 7.
+ * Refusals: 9; 5 where frames_len is not 8 K, or words_len or rows_len is not K; then for each checker 1, 2, 3, 7.
  */
 uint32_t selvedgeon_bench(const struct selvedgeon_config *table, size_t table_len, const uint32_t *frames,
                           size_t frames_len, uint64_t *words, size_t words_len, uint32_t *rows, size_t rows_len);

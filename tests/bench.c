@@ -6,6 +6,8 @@
 #include <stdio.h>
 #include <string.h>
 
+#include "checker.h"
+#include "frame.h"
 #include "selvedgeon.h"
 
 #define MOST 65
@@ -26,14 +28,14 @@ static void expect(const char *what, uint64_t found, uint64_t due)
 /* a table, its frames, words and rows, with a guard behind words and rows */
 struct bench {
     struct selvedgeon_config table[MOST];
-    uint32_t frames[4 * MOST];
+    uint32_t frames[FRAME_WORDS * MOST];
     uint64_t words[MOST + 1];
     uint32_t rows[MOST + 1];
 };
 
 static uint32_t run(struct bench *b, size_t checkers)
 {
-    return selvedgeon_bench(b->table, checkers, b->frames, 4 * checkers, b->words, checkers, b->rows, checkers);
+    return selvedgeon_bench(b->table, checkers, b->frames, FRAME_WORDS * checkers, b->words, checkers, b->rows, checkers);
 }
 
 /* checker k: the kinds in turn, each with a word that is possible for it and a frame on which something happens */
@@ -51,10 +53,11 @@ static void fill(struct bench *b)
         b->table[k].severity = k % 4 == 3; /* some are fatal */
         b->words[k] = words[k % KINDS];
         b->rows[k] = GUARD;
-        b->frames[4 * k] = k % 11 == 10 ? 2 : k % 5 == 4 ? 1 : 3; /* some checkers are in reset, and some not enabled */
-        b->frames[4 * k + 1] = 5 * k + 1;
-        b->frames[4 * k + 2] = 3 * k;
-        b->frames[4 * k + 3] = k;
+        uint32_t reset = k % 11 == 10 ? 2 : k % 5 == 4 ? 1 : 3; /* some checkers are in reset, and some not enabled */
+        put_frame(b->frames, k, reset, 5 * k + 1, 3 * k, k);
+        if (k % 7 == 6) /* some have unknown bits in every word */
+            for (enum frame_word word = RESET_X; word <= R_X; word++)
+                b->frames[at(k, word)] = k * (word + 1);
     }
     b->words[MOST] = GUARD;
     b->rows[MOST] = GUARD;
@@ -67,19 +70,9 @@ static void expect_stepped(struct bench *b, size_t checkers)
     memcpy(&before, b, sizeof before);
     expect("refusal", run(b, checkers), 0);
     for (size_t k = 0; k < checkers; k++) {
-        const struct selvedgeon_config *c = &before.table[k];
-        const uint32_t *frame = &before.frames[4 * k];
-        uint8_t word[8];
-        uint64_t next = 0;
-        for (int i = 0; i < 8; i++)
-            word[i] = (uint8_t)(before.words[k] >> 8 * i);
-        uint32_t row = selvedgeon_step(c->kind, c->n, c->p.left, c->p.right, c->q.left, c->q.right, c->r.left,
-                                       c->r.right, c->min, c->value, c->severity, frame[0], frame[1], frame[2], frame[3],
-                                       word, 8);
-        for (int i = 0; i < 8; i++)
-            next |= (uint64_t)word[i] << 8 * i;
-        expect("row", b->rows[k], row);
-        expect("word", b->words[k], next);
+        uint64_t word = before.words[k];
+        expect("row", b->rows[k], step(before.table[k], &before.frames[FRAME_WORDS * k], &word));
+        expect("word", b->words[k], word);
     }
     expect("words behind", (uint64_t)memcmp(b->words + checkers, before.words + checkers, (MOST + 1 - checkers) * 8), 0);
     expect("rows behind", (uint64_t)memcmp(b->rows + checkers, before.rows + checkers, (MOST + 1 - checkers) * 4), 0);
@@ -93,7 +86,7 @@ static void expect_refused(const char *what, struct bench *b, uint32_t answer, u
     expect("refused and written", (uint64_t)memcmp(b, before, sizeof *b), 0);
 }
 
-static void refusals(void)
+static void refused_lengths(void)
 {
     struct bench b, before;
     fill(&b);
@@ -101,10 +94,18 @@ static void refusals(void)
     expect_refused("65 checkers", &b, run(&b, 65), 9, 0, &before);
     expect_refused("65 checkers and no frames", &b, selvedgeon_bench(b.table, 65, b.frames, 0, b.words, 65, b.rows, 65),
                    9, 0, &before);
-    expect_refused("frames too short", &b, selvedgeon_bench(b.table, 4, b.frames, 15, b.words, 4, b.rows, 4), 5, 0, &before);
-    expect_refused("words too long", &b, selvedgeon_bench(b.table, 4, b.frames, 16, b.words, 5, b.rows, 4), 5, 0, &before);
-    expect_refused("rows too short", &b, selvedgeon_bench(b.table, 4, b.frames, 16, b.words, 4, b.rows, 3), 5, 0, &before);
+    expect_refused("frames too short", &b, selvedgeon_bench(b.table, 4, b.frames, 31, b.words, 4, b.rows, 4), 5, 0, &before);
+    expect_refused("frames too long", &b, selvedgeon_bench(b.table, 4, b.frames, 33, b.words, 4, b.rows, 4), 5, 0, &before);
+    expect_refused("frames of four words", &b, selvedgeon_bench(b.table, 4, b.frames, 16, b.words, 4, b.rows, 4), 5, 0,
+                   &before);
+    expect_refused("words too long", &b, selvedgeon_bench(b.table, 4, b.frames, 32, b.words, 5, b.rows, 4), 5, 0, &before);
+    expect_refused("rows too short", &b, selvedgeon_bench(b.table, 4, b.frames, 32, b.words, 4, b.rows, 3), 5, 0, &before);
+}
 
+static void refused_checkers(void)
+{
+    struct bench b, before;
+    fill(&b);
     b.table[40].kind = 9;
     b.table[50].kind = 200;
     memcpy(&before, &b, sizeof b);
@@ -135,7 +136,7 @@ static void refusals(void)
     memcpy(&before, &b, sizeof b);
     expect_refused("index of checker 0", &b, run(&b, 64), 3, 0, &before);
     /* a bad checker with a short slice is refused for the slice */
-    expect_refused("short slice first", &b, selvedgeon_bench(b.table, 64, b.frames, 256, b.words, 64, b.rows, 63), 5, 0, &before);
+    expect_refused("short slice first", &b, selvedgeon_bench(b.table, 64, b.frames, 512, b.words, 64, b.rows, 63), 5, 0, &before);
 }
 
 /* case C of the whiteboard table, P [0:3], cycle by cycle */
@@ -146,8 +147,8 @@ static void case_c(void)
     uint64_t word = 0;
     uint32_t row = GUARD;
     for (int t = 0; t < 6; t++) {
-        uint32_t frame[4] = {1, samples[t], 0, 0};
-        expect("case C", selvedgeon_bench(&c, 1, frame, 4, &word, 1, &row, 1), 0);
+        const uint32_t frame[FRAME_WORDS] = {KNOWN(1, samples[t], 0, 0)};
+        expect("case C", selvedgeon_bench(&c, 1, frame, FRAME_WORDS, &word, 1, &row, 1), 0);
         expect("case C row", row, rows[t]);
         expect("case C word", word, words[t]);
     }
@@ -163,7 +164,8 @@ int main(void)
             expect_stepped(&b, counts[i]);
     }
     expect("no table", selvedgeon_bench(NULL, 0, NULL, 0, NULL, 0, NULL, 0), 0);
-    refusals();
+    refused_lengths();
+    refused_checkers();
     case_c();
     printf("bench: %d comparisons, %d failed\n", compared, failed);
     return failed != 0;

@@ -7,17 +7,21 @@
 #include <string.h>
 
 #include "checker.h"
+#include "frame.h"
 #include "print.h"
 #include "selvedgeon.h"
 
 #define CYCLES 6
 #define MOST 65536
+#define EVERY_MARK 63
 
 /* the trace of case A, a sequence of four events on P [3:0] */
-static const uint32_t case_a[4 * CYCLES] = {1, 8, 0, 0, 1, 4, 0, 0, 1, 10, 0, 0, 1, 5, 0, 0, 1, 2, 0, 0, 1, 1, 0, 0};
+static const uint32_t case_a[FRAME_WORDS * CYCLES] = {KNOWN(1, 8, 0, 0), KNOWN(1, 4, 0, 0), KNOWN(1, 10, 0, 0),
+                                                      KNOWN(1, 5, 0, 0), KNOWN(1, 2, 0, 0), KNOWN(1, 1, 0, 0)};
 
 /* start and test are 1 in each cycle */
-static const uint32_t ones[4 * CYCLES] = {1, 1, 1, 1, 1, 1, 1, 1, 1, 1, 1, 1, 1, 1, 1, 1, 1, 1, 1, 1, 1, 1, 1, 1};
+static const uint32_t ones[FRAME_WORDS * CYCLES] = {KNOWN(1, 1, 1, 1), KNOWN(1, 1, 1, 1), KNOWN(1, 1, 1, 1),
+                                                    KNOWN(1, 1, 1, 1), KNOWN(1, 1, 1, 1), KNOWN(1, 1, 1, 1)};
 
 struct record {
     uint32_t rows[CYCLES];
@@ -37,14 +41,15 @@ static void print_record(const struct record *r)
 static void recheck(struct selvedgeon_config c, const uint32_t *trace, size_t cycles, uint32_t *rows, uint64_t *words,
                     uint64_t a, uint64_t b)
 {
-    int32_t answer[6] = {0}; /* a refused recheck leaves them */
-    uint64_t answered = selvedgeon_recheck(NUMBERS(c), trace, 4 * cycles, rows, cycles, words, cycles, a, b, answer, 6);
+    int32_t answer[ANSWER] = {0}; /* a refused recheck leaves them */
+    uint64_t answered = selvedgeon_recheck(NUMBERS(c), trace, FRAME_WORDS * cycles, rows, cycles, words, cycles, a, b,
+                                           answer, ANSWER);
     uint32_t refusal = (uint32_t)(answered >> 32), cycle = (uint32_t)answered;
     printf("refusal %" PRIu32, refusal);
     if (refusal == SELVEDGEON_BAD_WORD || cycle != 0) /* a cycle with another refusal is wrong, and has to show */
         printf(" cycle %" PRIu32, cycle);
     printf(" end %" PRId32 " changes", answer[0]);
-    for (int i = 1; i < 6; i++)
+    for (int i = 1; i < ANSWER; i++)
         printf(" %" PRId32, answer[i]);
     printf("\n");
 }
@@ -59,12 +64,12 @@ static void recheck_record(struct selvedgeon_config c, const uint32_t *trace, st
 /* the full check of six cycles, then the recheck with P made `p` in cycle t: what each leaves */
 static void edit(struct selvedgeon_config c, const uint32_t *trace, uint64_t t, uint32_t p)
 {
-    uint32_t edited[4 * CYCLES];
+    uint32_t edited[FRAME_WORDS * CYCLES];
     struct record r = {0};
-    selvedgeon_check(NUMBERS(c), trace, 4 * CYCLES, r.rows, CYCLES, r.words, CYCLES);
+    selvedgeon_check(NUMBERS(c), trace, FRAME_WORDS * CYCLES, r.rows, CYCLES, r.words, CYCLES);
     print_record(&r);
     memcpy(edited, trace, sizeof edited);
-    edited[4 * t + 1] = p;
+    edited[at(t, P)] = p;
     recheck_record(c, edited, &r, t, t + 1);
 }
 
@@ -112,7 +117,7 @@ static void spoiled_records(void)
     struct selvedgeon_config c = checker(1, 4, 3), other = checker(3, 20, 0);
     struct record r = {0};
     printf("case A, spoiled record: that of another checker\n"); /* a window of 20 cycles opens in cycle 3 */
-    selvedgeon_check(NUMBERS(other), case_a, 4 * CYCLES, r.rows, CYCLES, r.words, CYCLES);
+    selvedgeon_check(NUMBERS(other), case_a, FRAME_WORDS * CYCLES, r.rows, CYCLES, r.words, CYCLES);
     recheck_record(c, case_a, &r, 1, 2);
     for (size_t i = 0; i < sizeof spoiled / sizeof *spoiled; i++) {
         const struct spoiled *s = &spoiled[i];
@@ -140,16 +145,15 @@ static void limits_of_n(void)
 }
 
 /* the longest trace and one cycle more; kind 6 over one wire, the test, the start state and the next state being wire 0 */
-static uint32_t trace[4 * (MOST + 1)], rows[MOST + 1];
+static uint32_t trace[FRAME_WORDS * (MOST + 1)], rows[MOST + 1];
 static uint64_t words[MOST + 1];
 static const struct selvedgeon_config transition = {.kind = 6};
 
-/* each word of the trace and each row alike, and nothing open */
+/* reset, P, Q and R all alike and known, each row alike, and nothing open */
 static void fill(uint32_t sample, uint32_t row)
 {
-    for (size_t i = 0; i < sizeof trace / sizeof *trace; i++)
-        trace[i] = sample;
     for (size_t t = 0; t < sizeof rows / sizeof *rows; t++) {
+        put_frame(trace, t, sample, sample, sample, sample);
         rows[t] = row;
         words[t] = 0;
     }
@@ -161,23 +165,33 @@ static void limits_of_cycles(void)
     recheck(checker(3, 1, 0), NULL, 0, NULL, NULL, 0, 0);
     fill(0, 0);
     for (size_t n = MOST; n <= MOST + 1; n++)
-        printf("N %zu: %" PRIu32 "\n", n, selvedgeon_check(NUMBERS(transition), trace, 4 * n, rows, n, words, n));
-    uint32_t counts[5];
-    printf("totals of 65537 rows: %" PRIu32 "\n", selvedgeon_totals(rows, MOST + 1, counts, 5));
+        printf("N %zu: %" PRIu32 "\n", n, selvedgeon_check(NUMBERS(transition), trace, FRAME_WORDS * n, rows, n, words, n));
+    uint32_t counts[MARKS];
+    printf("totals of 65537 rows: %" PRIu32 "\n", selvedgeon_totals(rows, MOST + 1, counts, MARKS));
 }
 
-/* every row claims every mark, and all go; then no row claims one, and the start state is seen in each cycle */
+/*
+ * Every row claims every mark, and all go; then no row claims one, and the start state is seen in each cycle. Last, the next
+ * state is unknown at each of these starts, which has mark 32 too.
+ */
 static void most_changes(void)
 {
-    uint32_t counts[5] = {0};
-    printf("65536 rows of 31, trace in reset\n");
-    fill(0, 31);
+    uint32_t counts[MARKS] = {0};
+    printf("65536 rows of 63, trace in reset\n");
+    fill(0, EVERY_MARK);
     recheck(transition, trace, MOST, rows, words, 0, MOST);
     printf("65536 rows of 0, a start in every cycle\n");
     fill(1, 0);
     recheck(transition, trace, MOST, rows, words, 0, MOST);
-    selvedgeon_totals(rows, MOST, counts, 5);
+    selvedgeon_totals(rows, MOST, counts, MARKS);
     printf("rows with mark 4: %" PRIu32 "\n", counts[2]);
+    printf("65536 rows of 0, a start with an unknown next state in every cycle\n");
+    fill(1, 0);
+    for (size_t t = 0; t < MOST; t++)
+        trace[at(t, R_X)] = 1;
+    recheck(transition, trace, MOST, rows, words, 0, MOST);
+    selvedgeon_totals(rows, MOST, counts, MARKS);
+    printf("rows with mark 32: %" PRIu32 "\n", counts[5]);
 }
 
 int main(void)

@@ -6,21 +6,12 @@
 #include <stdio.h>
 
 #include "checker.h"
+#include "expect.h"
+#include "frame.h"
 #include "selvedgeon.h"
 
 #define MOST 8
 #define STOP SELVEDGEON_STOPPED
-
-static int compared, failed;
-
-static void expect(const char *what, const char *of, int at, uint64_t found, uint64_t due)
-{
-    compared++;
-    if (found != due) {
-        failed++;
-        printf("%s, %s %d: found %" PRIu64 ", due %" PRIu64 "\n", what, of, at, found, due);
-    }
-}
 
 /* a fatal checker, its trace, and what is due: rows, words, and the words of its failure list */
 struct example {
@@ -45,49 +36,33 @@ static const struct example examples[] = {
      {4, 8, 0, 4, 8, 0}, {1, 0, 0, 1, 0, 0}, 0, {0}},
 };
 
-/* the step of the example's checker on cycle t, from a word in eight bytes */
-static uint32_t step(const struct example *e, int t, uint64_t *word)
-{
-    uint8_t bytes[8];
-    for (int i = 0; i < 8; i++)
-        bytes[i] = (uint8_t)(*word >> 8 * i);
-    uint32_t row = selvedgeon_step(NUMBERS(e->config), e->resets[t], e->p[t], e->q[t], 0, bytes, 8);
-    *word = 0;
-    for (int i = 0; i < 8; i++)
-        *word |= (uint64_t)bytes[i] << 8 * i;
-    return row;
-}
-
 static void frames(const struct example *e, uint32_t *trace)
 {
-    for (int t = 0; t < e->cycles; t++) {
-        trace[4 * t] = e->resets[t];
-        trace[4 * t + 1] = e->p[t];
-        trace[4 * t + 2] = e->q[t];
-        trace[4 * t + 3] = 0;
-    }
+    for (int t = 0; t < e->cycles; t++)
+        put_frame(trace, (size_t)t, e->resets[t], e->p[t], e->q[t], 0);
 }
 
 /* as a full check, step by step, and its list, totals and first failure */
 static void run(const struct example *e)
 {
-    uint32_t trace[4 * MOST], rows[MOST], list[3 * MOST], counts[5], first = MOST;
+    uint32_t trace[FRAME_WORDS * MOST], rows[MOST], list[3 * MOST], counts[MARKS], first = MOST;
     uint64_t words[MOST], word = 0;
     size_t n = (size_t)e->cycles;
     frames(e, trace);
-    expect(e->name, "check", 0, selvedgeon_check(NUMBERS(e->config), trace, 4 * n, rows, n, words, n), 0);
+    expect(e->name, "check", 0, selvedgeon_check(NUMBERS(e->config), trace, FRAME_WORDS * n, rows, n, words, n), 0);
     for (int t = 0; t < e->cycles; t++) {
         expect(e->name, "row", t, rows[t], e->rows[t]);
         expect(e->name, "word", t, words[t], e->words[t]);
-        expect(e->name, "step", t, step(e, t, &word), e->rows[t]);
+        expect(e->name, "step", t, step(e->config, &trace[FRAME_WORDS * t], &word), e->rows[t]);
         expect(e->name, "next word", t, word, e->words[t]);
         if (e->rows[t] & 3 && first == MOST)
             first = (uint32_t)t;
     }
-    expect(e->name, "entries", 0, selvedgeon_failures(NUMBERS(e->config), trace, 4 * n, list, 3 * n), (uint64_t)e->entries);
+    expect(e->name, "entries", 0, selvedgeon_failures(NUMBERS(e->config), trace, FRAME_WORDS * n, list, 3 * n),
+           (uint64_t)e->entries);
     for (int i = 0; i < 3 * e->entries; i++)
         expect(e->name, "list", i, list[i], e->list[i]);
-    expect(e->name, "totals", 0, selvedgeon_totals(rows, n, counts, 5), 0);
+    expect(e->name, "totals", 0, selvedgeon_totals(rows, n, counts, MARKS), 0);
     expect(e->name, "failures and illegal starts", 0, counts[0] + counts[1], (uint64_t)e->entries);
     expect(e->name, "first failure", 0, selvedgeon_first_failure(1, n, rows, n),
            e->entries ? (UINT64_C(1) << 31) + first : 0);
@@ -97,7 +72,7 @@ static void run(const struct example *e)
  * Kind 3, n 2, start 1 in cycles 0, 3 and 6. Going on, the test of cycle 1 fails, and that of cycle 5, the last of its window.
  * Fatal: rows 4 1 and 0, words 2 and 2^63.
  */
-static uint32_t trace[4 * MOST], rows[MOST];
+static uint32_t trace[FRAME_WORDS * MOST], rows[MOST];
 static uint64_t words[MOST];
 static const struct selvedgeon_config watch = {3, 2, {0, 0}, {0, 0}, {0, 0}, 0, 0, 1};
 
@@ -112,11 +87,11 @@ static void expect_record(const char *what, const uint32_t *due_rows, const uint
 /* the recheck of cycles a to b-1: where it ends, and the changes of the marks 1, 4 and 8 */
 static void recheck(const char *what, uint64_t a, uint64_t b, int32_t end, int32_t failures, int32_t opened, int32_t closed)
 {
-    const int32_t due[6] = {end, failures, 0, opened, closed, 0};
-    int32_t answer[6];
+    const int32_t due[ANSWER] = {end, failures, 0, opened, closed, 0, 0};
+    int32_t answer[ANSWER];
     expect(what, "refusal and cycle", 0,
-           selvedgeon_recheck(NUMBERS(watch), trace, 4 * MOST, rows, MOST, words, MOST, a, b, answer, 6), 0);
-    for (int i = 0; i < 6; i++)
+           selvedgeon_recheck(NUMBERS(watch), trace, FRAME_WORDS * MOST, rows, MOST, words, MOST, a, b, answer, ANSWER), 0);
+    for (int i = 0; i < ANSWER; i++)
         expect(what, "answer", i, (uint64_t)answer[i], (uint64_t)due[i]);
 }
 
@@ -126,27 +101,24 @@ static void rechecks(void)
     static const uint32_t early[MOST] = {4, 1}, late[MOST] = {4, 0, 8, 4, 0, 9}, none[MOST] = {4, 0, 8, 4, 0, 8, 4, 0};
     static const uint64_t from_1[MOST] = {2, STOP, STOP, STOP, STOP, STOP, STOP, STOP};
     static const uint64_t from_5[MOST] = {2, 1, 0, 2, 1, STOP, STOP, STOP}, never[MOST] = {2, 1, 0, 2, 1, 0, 2, 1};
-    for (int t = 0; t < MOST; t++) {
-        trace[4 * t] = 1;
-        trace[4 * t + 1] = starts[t];
-        trace[4 * t + 2] = tests[t];
-    }
-    selvedgeon_check(NUMBERS(watch), trace, 4 * MOST, rows, MOST, words, MOST);
+    for (int t = 0; t < MOST; t++)
+        put_frame(trace, (size_t)t, 1, starts[t], tests[t], 0);
+    selvedgeon_check(NUMBERS(watch), trace, FRAME_WORDS * MOST, rows, MOST, words, MOST);
     expect_record("fails in cycle 1", early, from_1);
-    trace[4 * 4] = 0; /* a reset behind the failure */
+    trace[at(4, RESET)] = 0; /* a reset behind the failure */
     recheck("an edit behind the failure", 4, 5, 5, 0, 0, 0);
     expect_record("an edit behind the failure", early, from_1);
-    trace[4 * 4] = 1;
-    trace[4 * 1 + 2] = 1;
+    trace[at(4, RESET)] = 1;
+    trace[at(1, Q)] = 1;
     recheck("the failure of cycle 1 removed", 1, 2, 6, 0, 1, 2);
     expect_record("the failure of cycle 1 removed", late, from_5);
-    trace[4 * 5 + 2] = 1;
+    trace[at(5, Q)] = 1;
     recheck("the last failure removed", 5, 6, 8, -1, 1, 0);
     expect_record("the last failure removed", none, never);
-    trace[4 * 5 + 2] = 0;
+    trace[at(5, Q)] = 0;
     recheck("a failure where there was none", 5, 6, 8, 1, -1, 0);
     expect_record("a failure where there was none", late, from_5);
-    trace[4 * 1 + 2] = 0;
+    trace[at(1, Q)] = 0;
     recheck("an earlier failure", 1, 2, 6, 0, -1, -2);
     expect_record("an earlier failure", early, from_1);
 }
@@ -155,10 +127,11 @@ static void rechecks(void)
 static void possible(void)
 {
     struct selvedgeon_config c = examples[0].config, k8 = examples[3].config;
+    const uint32_t frame[FRAME_WORDS] = {KNOWN(1, 4, 0, 0)}; /* a start */
     uint64_t word = STOP;
     expect("open count", "stopped", 1, selvedgeon_open_count(NUMBERS(c), STOP), 0);
     expect("open count", "stopped, and a bit", 1, selvedgeon_open_count(NUMBERS(c), STOP + 1), 7 * 256);
-    expect("step", "stopped", 1, step(&examples[0], 0, &word), 0);
+    expect("step", "stopped", 1, step(c, frame, &word), 0);
     expect("step", "stopped", 1, word, STOP);
     expect("open count", "min equal to max", 8, selvedgeon_open_count(NUMBERS(k8), STOP), 7 * 256);
     k8.min = 0;

@@ -5,6 +5,7 @@
 #include <stdio.h>
 
 #include "checker.h"
+#include "frame.h"
 #include "print.h"
 #include "selvedgeon.h"
 
@@ -19,17 +20,19 @@ static void list_failures(const char *name, struct selvedgeon_config c, const ui
     uint32_t list[ROOM];
     for (int i = 0; i < ROOM; i++)
         list[i] = UNWRITTEN;
-    uint64_t answer = selvedgeon_failures(NUMBERS(c), trace, 4 * cycles, list, room);
+    uint64_t answer = selvedgeon_failures(NUMBERS(c), trace, FRAME_WORDS * cycles, list, room);
     printf("%s\nrefusal %" PRIu64 " count %" PRIu32, name, answer >> 32, (uint32_t)answer);
     print_numbers(" list", list, room);
 }
 
 static void short_lists(void)
 {
-    static const uint32_t case_c[24] = {1, 8, 0, 0, 1, 4, 0, 0, 1, 10, 0, 0, 1, 5, 0, 0, 1, 2, 0, 0, 1, 1, 0, 0};
-    static const uint32_t case_f[12] = {1, 4, 0, 0, 1, 6, 0, 0, 1, 0, 0, 0};
-    static const uint32_t case_i[24] = {1, 1, 0, 0, 1, 0, 1, 0, 1, 1, 0, 0, 1, 0, 1, 0, 1, 1, 1, 0, 1, 0, 1, 0};
-    static const uint32_t moved[16] = {1, 1, 0, 0, 1, 0, 1, 0, 1, 1, 0, 0, 1, 0, 0, 0};
+    static const uint32_t case_c[] = {KNOWN(1, 8, 0, 0), KNOWN(1, 4, 0, 0), KNOWN(1, 10, 0, 0),
+                                      KNOWN(1, 5, 0, 0), KNOWN(1, 2, 0, 0), KNOWN(1, 1, 0, 0)};
+    static const uint32_t case_f[] = {KNOWN(1, 4, 0, 0), KNOWN(1, 6, 0, 0), KNOWN(1, 0, 0, 0)};
+    static const uint32_t case_i[] = {KNOWN(1, 1, 0, 0), KNOWN(1, 0, 1, 0), KNOWN(1, 1, 0, 0),
+                                      KNOWN(1, 0, 1, 0), KNOWN(1, 1, 1, 0), KNOWN(1, 0, 1, 0)};
+    static const uint32_t moved[] = {KNOWN(1, 1, 0, 0), KNOWN(1, 0, 1, 0), KNOWN(1, 1, 0, 0), KNOWN(1, 0, 0, 0)};
     struct selvedgeon_config ascending = checker(1, 4, 0);
     ascending.p.right = 3;
     /* two attempts fail in cycle 2, and there is room for one entry more */
@@ -46,26 +49,24 @@ static void short_lists(void)
 static void list_most(struct selvedgeon_config c, const uint32_t *trace, size_t entries)
 {
     static uint32_t list[3 * MOST_ENTRIES];
-    uint64_t answer = selvedgeon_failures(NUMBERS(c), trace, 4 * CYCLES, list, 3 * entries);
+    uint64_t answer = selvedgeon_failures(NUMBERS(c), trace, FRAME_WORDS * CYCLES, list, 3 * entries);
     printf("refusal %" PRIu64 "\ncount %" PRIu32 "\n", answer >> 32, (uint32_t)answer);
     print_numbers("last entry", &list[3 * (entries - 1)], 3);
 }
 
 static void longest_lists(void)
 {
-    static uint32_t trace[4 * CYCLES];
+    static uint32_t trace[FRAME_WORDS * CYCLES];
     struct selvedgeon_config watch = checker(5, 65535, 0);
     printf("65536 cycles, 31 attempts fail in every 32nd\n");
-    for (size_t i = 0; i < 4 * CYCLES; i++)
-        trace[i] = UINT32_MAX;
-    for (size_t t = 31; t < CYCLES; t += 32)
-        trace[4 * t + 1] = 0;
+    for (size_t t = 0; t < CYCLES; t++)
+        put_frame(trace, t, UINT32_MAX, t % 32 == 31 ? 0 : UINT32_MAX, UINT32_MAX, UINT32_MAX);
     list_most(checker(1, 32, 31), trace, 2048 * 31);
     /* a failure and an illegal start in each cycle of the window: the test is wire 1 of Q, which is 0 */
     printf("65536 cycles, kind 5, n 65535, start 1 and test 0\n");
     watch.q.left = watch.q.right = 1;
-    for (size_t i = 0; i < 4 * CYCLES; i++)
-        trace[i] = 1;
+    for (size_t t = 0; t < CYCLES; t++)
+        put_frame(trace, t, 1, 1, 1, 1);
     list_most(watch, trace, MOST_ENTRIES);
 }
 

@@ -6,9 +6,11 @@
 #include <inttypes.h>
 #include <stdio.h>
 
+#include "frame.h"
 #include "selvedgeon.h"
 
 #define CYCLES 65536
+#define TRACE_WORDS (FRAME_WORDS * CYCLES)
 #define LONGEST 65535
 #define LAST 65535
 #define KINDS 5
@@ -28,7 +30,7 @@ static const struct selvedgeon_config kinds[KINDS] = {
 
 enum outcome { PASSES, FAILS_LAST, FAILS_EACH };
 
-static uint32_t trace[4 * CYCLES], rows[CYCLES], list[3 * CYCLES];
+static uint32_t trace[TRACE_WORDS], rows[CYCLES], list[3 * CYCLES];
 static uint64_t words[CYCLES];
 static int compared, failed;
 
@@ -50,10 +52,7 @@ static void sample(uint8_t kind, int start, enum outcome outcome)
 {
     for (uint32_t t = 0; t < CYCLES; t++) {
         uint32_t starts = start && t == 0, right = !is_wrong(outcome, t);
-        trace[4 * t] = 3;
-        trace[4 * t + 1] = (kind <= 5 ? starts : right) << 5;
-        trace[4 * t + 2] = (kind <= 5 ? right : starts) << 9;
-        trace[4 * t + 3] = 0;
+        put_frame(trace, t, 3, (kind <= 5 ? starts : right) << 5, (kind <= 5 ? right : starts) << 9, 0);
     }
 }
 
@@ -72,11 +71,11 @@ static void expect_record(const char *what, uint8_t kind, int start, enum outcom
 static void expect_recheck(struct selvedgeon_config c, int sign, enum outcome outcome)
 {
     static const int32_t failures[] = {[PASSES] = 0, [FAILS_LAST] = 1, [FAILS_EACH] = 65535};
-    const int32_t due[6] = {CYCLES, sign * failures[outcome], 0, sign, sign, 0};
-    int32_t answer[6] = {0};
+    const int32_t due[ANSWER] = {CYCLES, sign * failures[outcome], 0, sign, sign, 0, 0};
+    int32_t answer[ANSWER] = {0};
     expect("refusal and cycle of a recheck", c.kind, 0,
-           selvedgeon_recheck(NUMBERS(c, LONGEST), trace, 4 * CYCLES, rows, CYCLES, words, CYCLES, 0, 1, answer, 6), 0);
-    for (int i = 0; i < 6; i++)
+           selvedgeon_recheck(NUMBERS(c, LONGEST), trace, TRACE_WORDS, rows, CYCLES, words, CYCLES, 0, 1, answer, ANSWER), 0);
+    for (int i = 0; i < ANSWER; i++)
         expect("end and changes", c.kind, 0, (uint64_t)answer[i], (uint64_t)due[i]);
     expect_record("after a recheck", c.kind, sign > 0, outcome);
 }
@@ -84,7 +83,7 @@ static void expect_recheck(struct selvedgeon_config c, int sign, enum outcome ou
 static void full_checks_and_rechecks(struct selvedgeon_config c, enum outcome outcome)
 {
     sample(c.kind, 1, outcome);
-    expect("check", c.kind, 0, selvedgeon_check(NUMBERS(c, LONGEST), trace, 4 * CYCLES, rows, CYCLES, words, CYCLES), 0);
+    expect("check", c.kind, 0, selvedgeon_check(NUMBERS(c, LONGEST), trace, TRACE_WORDS, rows, CYCLES, words, CYCLES), 0);
     expect_record("after a full check", c.kind, 1, outcome);
     sample(c.kind, 0, outcome);
     expect_recheck(c, -1, outcome);
@@ -99,10 +98,10 @@ static void lists(struct selvedgeon_config c)
     for (uint32_t i = 0; i < 3 * CYCLES; i++)
         list[i] = GUARD;
     expect("list too short", c.kind, 0,
-           selvedgeon_failures(NUMBERS(c, LONGEST), trace, 4 * CYCLES, list, 3 * ENTRIES - 1), UINT64_C(8) << 32);
+           selvedgeon_failures(NUMBERS(c, LONGEST), trace, TRACE_WORDS, list, 3 * ENTRIES - 1), UINT64_C(8) << 32);
     for (uint32_t i = 0; i < 3 * CYCLES; i++)
         expect("refused and written", c.kind, i / 3, list[i], GUARD);
-    expect("list", c.kind, 0, selvedgeon_failures(NUMBERS(c, LONGEST), trace, 4 * CYCLES, list, 3 * CYCLES), ENTRIES);
+    expect("list", c.kind, 0, selvedgeon_failures(NUMBERS(c, LONGEST), trace, TRACE_WORDS, list, 3 * CYCLES), ENTRIES);
     for (uint32_t k = 0; k < ENTRIES; k++) {
         expect("cycle of an entry", c.kind, k + 1, list[3 * k], k + 1);
         expect("mark of an entry", c.kind, k + 1, list[3 * k + 1], 1);
@@ -137,23 +136,25 @@ static void watched_for_50_000_cycles(void)
 {
     const struct selvedgeon_config c = {3, 50000, {5, 5}, {9, 9}, {0, 0}, 0, 0, 0};
     static const uint32_t entries[6] = {20000, 1, 1000, 51000, 1, 1000};
-    static const int32_t due[6] = {20001, -1, 0, 0, 0, 0};
-    int32_t answer[6] = {0};
+    static const int32_t due[ANSWER] = {20001, -1, 0, 0, 0, 0, 0};
+    int32_t answer[ANSWER] = {0};
     sample(c.kind, 0, PASSES);
-    trace[4 * 1000 + 1] = 1 << 5;
-    trace[4 * 20000 + 2] = trace[4 * 51000 + 2] = 0;
-    expect("check", c.kind, 0, selvedgeon_check(NUMBERS(c, 50000), trace, 4 * CYCLES, rows, CYCLES, words, CYCLES), 0);
+    trace[at(1000, P)] = 1 << 5;
+    trace[at(20000, Q)] = trace[at(51000, Q)] = 0;
+    expect("check", c.kind, 0, selvedgeon_check(NUMBERS(c, 50000), trace, TRACE_WORDS, rows, CYCLES, words, CYCLES), 0);
     for (uint32_t t = 0; t < CYCLES; t++) {
         expect("row", c.kind, t, rows[t], t == 1000 ? 4 : t == 20000 ? 1 : t == 51000 ? 9 : 0);
         expect("word", c.kind, t, words[t], t >= 1000 && t < 51000 ? 51000 - t : 0);
     }
-    expect("entries", c.kind, 0, selvedgeon_failures(NUMBERS(c, 50000), trace, 4 * CYCLES, list, 3 * CYCLES), 2);
+    expect("entries", c.kind, 0, selvedgeon_failures(NUMBERS(c, 50000), trace, TRACE_WORDS, list, 3 * CYCLES), 2);
     for (int i = 0; i < 6; i++)
         expect("entry", c.kind, 0, list[i], entries[i]);
-    trace[4 * 20000 + 2] = 1 << 9;
+    trace[at(20000, Q)] = 1 << 9;
     expect("refusal and cycle of a recheck", c.kind, 20000,
-           selvedgeon_recheck(NUMBERS(c, 50000), trace, 4 * CYCLES, rows, CYCLES, words, CYCLES, 20000, 20001, answer, 6), 0);
-    for (int i = 0; i < 6; i++)
+           selvedgeon_recheck(NUMBERS(c, 50000), trace, TRACE_WORDS, rows, CYCLES, words, CYCLES, 20000, 20001, answer,
+                              ANSWER),
+           0);
+    for (int i = 0; i < ANSWER; i++)
         expect("end and changes", c.kind, 20000, (uint64_t)answer[i], (uint64_t)due[i]);
     expect("row put right", c.kind, 20000, rows[20000], 0);
 }

@@ -5,9 +5,11 @@ use crate::fatal;
 use crate::generate::{self, Failing, Random};
 use crate::host;
 use crate::records::{self, Sort, Words};
-use crate::rules::{self, Config, Edit, Record, Refusal, DONE, LONGEST_WINDOW, MOST_CYCLES, STOPPED};
+use crate::rules::{self, Config, Edit, Record, Refusal, ANSWERS, DONE, FRAME_WORDS, LONGEST_WINDOW, MARKS};
+use crate::rules::{MOST_CYCLES, STOPPED};
 use crate::spoiled;
 use crate::tally::{Call, Tally, NO_KIND};
+use crate::unknown;
 use crate::windows;
 use std::fmt::Debug;
 
@@ -173,27 +175,29 @@ impl Case<'_> {
         if !self.fault(30) {
             return due;
         }
-        self.random.pick(&[0, due + 1, due.saturating_sub(1), due + 4, 2 * due + 1, 4 * due])
+        self.random.pick(&[0, due + 1, due.saturating_sub(1), due + 4, due / 2, 2 * due + 1, 4 * due])
     }
 
-    /// Makes some traces a little longer or shorter, so that they are no whole number of frames.
+    /// Makes some traces a little longer or shorter, so that they are no whole number of frames; also by half a frame.
     fn cut_trace(&mut self, trace: &mut Vec<u32>) {
         if self.size == Size::WordMore {
             trace.push(self.random.word());
         } else if self.fault(40) {
-            let change = 1 + self.random.below(3);
+            let any = 1 + self.random.below(FRAME_WORDS - 1);
+            let change = self.random.pick(&[FRAME_WORDS / 2, any, any]);
             let longer = self.random.chance(512);
             let len = if longer { trace.len() + change } else { trace.len().saturating_sub(change) };
             trace.resize(len, 1);
         }
-        self.tally.situation("trace of no multiple of 4 words", trace.len() % 4 != 0);
+        self.tally.situation("trace of no multiple of 8 words", trace.len() % FRAME_WORDS != 0);
+        self.tally.situation("trace of an odd multiple of 4 words", trace.len() % FRAME_WORDS == 4);
     }
 }
 
 pub fn step(case: &mut Case) -> Outcome {
     let config = case.config_for_word();
     let trace = generate::trace(&mut case.random, config, 1);
-    let mut frame = [trace[0], trace[1], trace[2], trace[3]];
+    let mut frame = rules::frame_at(&trace, 0);
     let mut word = case.random.next();
     if config.refusal() == 0 {
         word = any_word(&mut case.random, config, 250);
@@ -233,22 +237,23 @@ fn tally_word(tally: &mut Tally, config: Config, word: u64) {
     fatal::tally_word(tally, config, word);
 }
 
-/// What a step of kind 7 or 8 did in an open window that it neither opened nor failed.
+/// What a step of kind 7 or 8 did in an open window that it neither opened nor failed, nor marked 32.
 fn tally_window_step(tally: &mut Tally, config: Config, word: u64, frame: rules::Frame, row: u32) {
     let held = rules::reference_in(word).is_some();
     let left = if held { rules::cycles_left_in(word) } else { word };
     // The step's own cycle is s+max−left+1.
     let in_range = left > 0 && u64::from(config.n) + 1 - left >= u64::from(config.min);
-    if !config.is_after_trigger() || frame[0] & 1 == 0 || row & 1 != 0 || !in_range {
+    if !config.is_after_trigger() || !rules::is_running(&frame) || row & 33 != 0 || !in_range {
         return;
     }
-    let enable = frame[0] & 2 != 0;
+    let enable = rules::is_enabled(&frame);
     if config.kind == 7 {
         tally.situation("step, value tested and passed", enable);
         tally.situation("step, value not tested, enable 0", !enable && config.p.value(frame[1]) != config.value);
     } else {
         tally.situation("step, stability, reference taken", enable && !held);
         tally.situation("step, stability, compared and passed", enable && held);
+        tally.situation("step, stability, reference taken after the trigger, min 0", enable && !held && config.min == 0);
     }
 }
 
@@ -291,6 +296,7 @@ pub fn check(case: &mut Case) -> Outcome {
         // §6: "records of a full check are never refused for this"
         let at = case.random.below(cycles + 1) as u64;
         compare_unaltered(&Edit { config, trace: &trace, a: at, b: at }, &rows, &words, DONE).map_err(context)?;
+        compare_alike(case, config, &trace, &rows, &words).map_err(context)?;
     }
     let tally = &mut case.tally;
     tally.case(Call::Check, Some(config.kind), due);
@@ -302,13 +308,39 @@ pub fn check(case: &mut Case) -> Outcome {
     Ok(())
 }
 
+/// What §8 says of one trace and another besides: without unknown bits there is no mark 32, and a trace that differs only where
+/// the checker does not look has the same rows, words and list, by the library and by the rules.
+fn compare_alike(case: &mut Case, config: Config, trace: &[u32], rows: &[u32], words: &[u64]) -> Outcome {
+    if unknown::has_none(trace) && rows.iter().any(|row| row & 32 != 0) {
+        return Err("mark 32 without an unknown bit".into());
+    }
+    if rows.len() >= LONG_RECORD {
+        return Ok(());
+    }
+    let (what, other) = unknown::alike(&mut case.random, config, trace);
+    case.tally.of_kind(config.kind, what, other != trace);
+    let (mut new_rows, mut new_words) = (vec![77; rows.len()], vec![77; words.len()]);
+    same(what, host::check(config, &other, &mut new_rows, &mut new_words)?, 0)?;
+    same_entries(&format!("rows, {what}"), &new_rows, rows)?;
+    same_entries(&format!("words, {what}"), &new_words, words)?;
+    let record = rules::true_record(config, &other);
+    same_entries(&format!("rows and those of the rules, {what}"), rows, &record.rows)?;
+    same_entries(&format!("words and those of the rules, {what}"), words, &record.words)?;
+    let list = rules::entries(config, trace).concat();
+    let mut new_list = vec![77; list.len()];
+    let entries = host::failures(config, &other, &mut new_list)?;
+    same(&format!("entries, {what}"), entries, list.len() as u64 / 3)?;
+    same_entries(&format!("list, {what}"), &new_list, &list)?;
+    same_entries(&format!("list and that of the rules, {what}"), &list, &rules::entries(config, &other).concat())
+}
+
 /// A recheck that leaves rows and words as they are: it is refused, or a = b. In the latter case it tests each word, and then
 /// has nothing to do: "(before cycle 0 both are 0)", and elsewhere the word before a is the kept one.
 pub fn compare_unaltered(edit: &Edit, rows: &[u32], words: &[u64], due: Refusal) -> Outcome {
-    let (mut new_rows, mut new_words, mut answer) = (rows.to_vec(), words.to_vec(), [99; 6]);
+    let (mut new_rows, mut new_words, mut answer) = (rows.to_vec(), words.to_vec(), [99; ANSWERS]);
     let refusal = host::recheck(edit, &mut new_rows, &mut new_words, &mut answer)?;
     same("refusal and named cycle of a recheck", refusal, due)?;
-    let answer_due = if due == DONE { [edit.b as i32, 0, 0, 0, 0, 0] } else { [99; 6] };
+    let answer_due = if due == DONE { [edit.b as i32, 0, 0, 0, 0, 0, 0] } else { [99; ANSWERS] };
     same_entries("e and changes of a recheck", &answer, &answer_due)?;
     same_entries("rows that stay", &new_rows, rows)?;
     same_entries("words that stay", &new_words, words)
@@ -327,9 +359,10 @@ fn tally_check(tally: &mut Tally, config: Config, trace: &[u32], record: &Record
     tally.situation("window restarted twice running, n = 1", config.n == 1 && twice_running);
     // To a fatal checker the trace ends where it stops.
     let stop = rows.len().min(words.iter().take_while(|word| **word != STOPPED).count() + 1);
-    windows::tally_windows(tally, config, &trace[..4 * stop], &rows[..stop]);
+    windows::tally_windows(tally, config, &trace[..FRAME_WORDS * stop], &rows[..stop]);
     windows::tally_longest(tally, config, rows);
     fatal::tally_check(tally, config, trace, rows);
+    unknown::tally_check(tally, config, trace, record);
 }
 
 /// An edit of the cycle in which a fatal checker stops, with a few cycles around it or all that follow; or of cycles before it
@@ -408,10 +441,11 @@ pub fn recheck(case: &mut Case) -> Outcome {
     let (a, b) = edit_range(case, cycles, stop);
     let mut trace = edited(case, &Edit { config, trace: &old, a, b });
     if is_good {
+        unknown::tally_edit(case.tally, config.kind, &old, &trace);
         kept = records::kept(&mut case.random, sort, kept, &Edit { config, trace: &old, a, b });
     }
     case.cut_trace(&mut trace);
-    let mut lent = Lent { rows: kept.rows, words: kept.words, answer: vec![0; case.length(6)] };
+    let mut lent = Lent { rows: kept.rows, words: kept.words, answer: vec![0; case.length(ANSWERS)] };
     lent.answer.iter_mut().for_each(|entry| *entry = case.random.word() as i32);
     lent.rows.resize(case.length(cycles), 5);
     lent.words.resize(case.length(cycles), 1);
@@ -427,7 +461,7 @@ fn edited(case: &mut Case, before: &Edit) -> Vec<u32> {
     let Edit { config, trace: old, a, b } = *before;
     if let Size::Longest(_) = case.size {
         generate::edited_in_cycle_0(&mut case.random, config, old)
-    } else if config.refusal() == 0 && a <= b && b <= old.len() as u64 / 4 {
+    } else if config.refusal() == 0 && a <= b && b <= (old.len() / FRAME_WORDS) as u64 {
         generate::edited(&mut case.random, config, old, a as usize, b as usize)
     } else {
         old.to_vec()
@@ -447,7 +481,7 @@ fn compare_places(case: &mut Case, edit: &Edit, cycles: usize) -> Outcome {
     for _ in 0..places {
         let t = records::place(&mut case.random, cycles, edit);
         let kept = std::mem::replace(&mut words[t], wrong.draw(&mut case.random));
-        let refusal = edit.refusal(&rows, &words, &[99; 6]);
+        let refusal = edit.refusal(&rows, &words, &[99; ANSWERS]);
         compare_unaltered(edit, &rows, &words, refusal).map_err(|d| {
             let (config, a, b, word) = (edit.config, edit.a, edit.b, words[t]);
             format!("recheck, {config:?}, a {a}, b {b}, {cycles} cycles, {word:#x} in cycle {t}: {d}")
@@ -532,6 +566,7 @@ fn tally_rechecks(tally: &mut Tally, edit: &Edit, lent: Lent, due: Lent, refusal
     if refusal == DONE {
         tally_recheck(tally, edit, &due, is_true);
         tally_word_recheck(tally, edit, &lent.words, &due.answer, is_true);
+        unknown::tally_change(tally, edit.config.kind, due.answer[6]);
         let (kept, new) = (Record { rows: lent.rows, words: lent.words }, Record { rows: due.rows, words: due.words });
         fatal::tally_recheck(tally, edit, &kept, &new, due.answer[0] as usize, is_true);
     }
@@ -539,7 +574,7 @@ fn tally_rechecks(tally: &mut Tally, edit: &Edit, lent: Lent, due: Lent, refusal
 
 /// A recheck that is not refused.
 fn tally_recheck(tally: &mut Tally, edit: &Edit, due: &Lent, is_true: bool) {
-    let (kind, last) = (edit.config.kind, (edit.trace.len() / 4) as u64);
+    let (kind, last) = (edit.config.kind, (edit.trace.len() / FRAME_WORDS) as u64);
     let e = due.answer[0] as u64;
     let (a, b) = (edit.a as usize, edit.b as usize);
     tally.rows(Call::Recheck, kind, &due.rows[a..e as usize]);
@@ -574,6 +609,8 @@ fn tally_word_recheck(tally: &mut Tally, edit: &Edit, kept: &[u64], answer: &[i3
         let (held, goes_on) = (rules::reference_in(before).is_some(), edit.config.kind == 8 && e > edit.a);
         tally.situation("recheck goes on with a reference", goes_on && held);
         tally.situation("recheck goes on before the reference", goes_on && !held && before != 0);
+        let min_0 = goes_on && !held && before != 0 && edit.config.min == 0;
+        tally.situation("recheck goes on before the reference, min 0", min_0);
         let late = is_true && !edit.config.is_fatal() && e > edit.b + u64::from(edit.config.n);
         tally.situation("recheck, true record, e above b + max, kinds 7 and 8", late);
     }
@@ -581,10 +618,10 @@ fn tally_word_recheck(tally: &mut Tally, edit: &Edit, kept: &[u64], answer: &[i3
 
 pub fn totals(case: &mut Case) -> Outcome {
     let rows_len = case.cycles(0);
-    let mask = case.random.pick(&[u32::MAX, 31, 3, 0, 1 << 4, !31]);
-    let fixed = case.random.pick(&[0, 0, 0, 31, u32::MAX]);
+    let mask = case.random.pick(&[u32::MAX, 63, 3, 0, 1 << 5, !63]);
+    let fixed = case.random.pick(&[0, 0, 0, 63, u32::MAX]);
     let rows: Vec<u32> = (0..rows_len).map(|_| case.random.word() & mask | fixed).collect();
-    let counts_len = case.length(5);
+    let counts_len = case.length(MARKS.len());
     let mut counts = case.random.words(counts_len);
     let mut expected = counts.clone();
 
@@ -598,7 +635,7 @@ pub fn totals(case: &mut Case) -> Outcome {
         case.tally.rows(Call::Totals, NO_KIND, &rows);
     }
     case.tally.situation("totals of 65,536 rows", due == 0 && rows_len == MOST_CYCLES);
-    case.tally.situation("totals refused 65,537 rows", due == 5 && rows_len > MOST_CYCLES && counts_len == 5);
+    case.tally.situation("totals refused 65,537 rows", due == 5 && rows_len > MOST_CYCLES && counts_len == MARKS.len());
     Ok(())
 }
 
@@ -624,7 +661,7 @@ pub fn failures(case: &mut Case) -> Outcome {
         case.trace(config, cycles)
     };
     case.cut_trace(&mut trace);
-    let refused = config.refusal() != 0 || trace.len() % 4 != 0 || cycles > MOST_CYCLES;
+    let refused = config.refusal() != 0 || trace.len() % FRAME_WORDS != 0 || cycles > MOST_CYCLES;
     let needed = if refused { 0 } else { 3 * rules::entries(config, &trace).len() };
     let list_len = list_length(case, needed);
     let mut list = case.random.words(list_len);
@@ -741,6 +778,9 @@ pub fn first_failure(case: &mut Case) -> Outcome {
         tally.situation("first failure, in the last row only", earlier && rows_len > 1);
     }
     tally.situation("first failure, none", due == 0 && rows_len > 0);
+    let unknown_first = rows.first().is_some_and(|row| row & 35 == 32);
+    tally.situation("first failure, none, rows with 32", due == 0 && unknown_first);
+    tally.situation("first failure, after a row with 32", refusal == 0 && due != 0 && unknown_first);
     tally.situation("first failure, 64 checkers of 65,536 cycles", refusal == 0 && rows_len == 64 * MOST_CYCLES);
     tally.situation("first failure refused 65,537 cycles", refusal == 4 && cycles == 65_537);
     Ok(())
@@ -785,7 +825,7 @@ pub fn bench(case: &mut Case) -> Outcome {
     let bad = if checkers == 0 { 0 } else { case.random.pick(&[0, 0, 1, 1, 2, 4]) };
     spoil_bench(&mut case.random, &mut bench, bad);
     let Bench { table, mut frames, words: mut lent } = bench;
-    frames.resize(case.length(4 * checkers), 1);
+    frames.resize(case.length(FRAME_WORDS * checkers), 1);
     lent.resize(case.length(checkers), 0);
     let rows_len = case.length(checkers);
     let mut rows = case.random.words(rows_len);

@@ -1,7 +1,7 @@
 //! The situations of fatal checkers (§7 of document 02) that every run has to meet, most of them with each kind that can meet
 //! them: those of a check, a failure list, a recheck, a step, an open word, a bench and a configuration.
 
-use crate::rules::{self, Config, Edit, Frame, Record, LONGEST_WINDOW, MOST_CYCLES, STOPPED};
+use crate::rules::{self, Config, Edit, Frame, Record, FRAME_WORDS, LONGEST_WINDOW, MOST_CYCLES, STOPPED};
 use crate::tally::{kinds_of, of, tally_all, Situation, Tally, ALL};
 use crate::windows;
 
@@ -220,7 +220,7 @@ pub fn tally_check(tally: &mut Tally, config: Config, trace: &[u32], rows: &[u32
 
 fn stopped_check(check: Check, config: Config, trace: &[u32], stop: usize) -> Check {
     let going_on = rules::true_record(config.going_on(), trace);
-    let in_reset = |t: &usize| trace[4 * t] & 1 == 0;
+    let in_reset = |t: &usize| !rules::is_running(&trace[FRAME_WORDS * t..]);
     let reset = (stop..check.cycles).find(in_reset);
     Check {
         row: going_on.rows[stop],
@@ -266,7 +266,7 @@ pub fn tally_recheck(tally: &mut Tally, edit: &Edit, kept: &Record, new: &Record
 pub fn tally_step(tally: &mut Tally, config: Config, word: u64, frame: Frame, row: u32) {
     if config.is_fatal() {
         let starts = rules::one_step(config.going_on(), 0, frame) != (0, 0);
-        tally_all(tally, config.kind, &STEPS, &Step { word, row, reset: frame[0] & 1 == 0, starts });
+        tally_all(tally, config.kind, &STEPS, &Step { word, row, reset: !rules::is_running(&frame), starts });
     }
 }
 

@@ -1,6 +1,8 @@
 //! The inputs: configurations, traces and open words, all from one deterministic generator.
 
-use crate::rules::{self, cycles_left_in, reference_in, with_reference, Config, Frame, Range, LONGEST_WINDOW, STOPPED};
+use crate::rules::{self, cycles_left_in, reference_in, with_reference, Config, Frame, Range};
+use crate::rules::{FRAME_WORDS, LONGEST_WINDOW, STOPPED};
+use crate::unknown;
 
 /// splitmix64
 pub struct Random(u64);
@@ -48,7 +50,7 @@ impl Random {
     }
 
     /// A word whose bits are 1 with probability 1/2, 1 − 2^−k for k above 1, or 2^k for k below −1.
-    fn dense_word(&mut self, k: i32) -> u32 {
+    pub fn dense_word(&mut self, k: i32) -> u32 {
         let mut word = self.word();
         for _ in 1..k.abs() {
             word = if k > 0 { word | self.word() } else { word & self.word() };
@@ -318,9 +320,10 @@ fn tracked_value(random: &mut Random, config: Config, style: &Style) -> u32 {
     random.pick(&[one_wire, one_wire, state, any])
 }
 
-/// A frame for a good configuration. Wires outside the declared ranges, and the rest of the reset word, are random.
+/// A frame for a good configuration. Wires outside the declared ranges, and the rest of the reset word, are random; no wire is
+/// unknown.
 fn frame(random: &mut Random, config: Config, style: &Style) -> Frame {
-    let mut frame = [0; 4].map(|_: u32| random.word());
+    let mut frame = rules::known([0; 4].map(|_: u32| random.word()));
     frame[0] = frame[0] & !1 | u32::from(!random.chance(style.reset));
     if config.is_sequence() {
         frame[1] = random.dense_word(style.events);
@@ -333,7 +336,7 @@ fn frame(random: &mut Random, config: Config, style: &Style) -> Frame {
         put_value(&mut frame[1], config.p, tracked_value(random, config, style));
         put_bit(&mut frame[2], config.q, 0, random.chance(style.start));
     } else {
-        for (word, range) in frame[1..].iter_mut().zip([config.p, config.q, config.r]) {
+        for (word, range) in frame[1..4].iter_mut().zip([config.p, config.q, config.r]) {
             let value = if random.chance(style.strange) { random.word() } else { random.pick(&style.states) };
             put_value(word, range, value);
         }
@@ -349,8 +352,8 @@ fn plant_attempt(random: &mut Random, config: Config, trace: &mut [u32], s: usiz
     let n = config.n as usize;
     let any = 1 + random.below(n);
     let lives = random.pick(&[n, n - 1, n - 1, any]);
-    for i in 0..n.min(lives + 1).min(trace.len() / 4 - s) {
-        put_bit(&mut trace[4 * (s + i) + 1], config.p, (n - 1 - i) as u32, i < lives);
+    for i in 0..n.min(lives + 1).min(trace.len() / FRAME_WORDS - s) {
+        put_bit(&mut trace[FRAME_WORDS * (s + i) + 1], config.p, (n - 1 - i) as u32, i < lives);
     }
 }
 
@@ -359,15 +362,15 @@ fn plant_triggers(random: &mut Random, config: Config, trace: &mut [u32], s: usi
     let max = config.n as usize;
     let within = s + random.below(max + 1);
     for t in [s, within, s + max, s + max + 1] {
-        if t < trace.len() / 4 && (t == s || random.chance(700)) {
-            put_bit(&mut trace[4 * t], ENABLE, 0, true);
-            put_bit(&mut trace[4 * t + 2], config.q, 0, true);
+        if t < trace.len() / FRAME_WORDS && (t == s || random.chance(700)) {
+            put_bit(&mut trace[FRAME_WORDS * t], ENABLE, 0, true);
+            put_bit(&mut trace[FRAME_WORDS * t + 2], config.q, 0, true);
         }
     }
 }
 
 fn styled_frames(random: &mut Random, config: Config, cycles: usize, style: &Style) -> Vec<u32> {
-    let mut trace = Vec::with_capacity(4 * cycles);
+    let mut trace = Vec::with_capacity(FRAME_WORDS * cycles);
     for _ in 0..cycles {
         trace.extend(frame(random, config, style));
     }
@@ -375,10 +378,10 @@ fn styled_frames(random: &mut Random, config: Config, cycles: usize, style: &Sty
 }
 
 /// Most traces of a fatal checker begin calm: in others it would most often stop early, and have little to go on from. Some end
-/// with the cycle where it stops.
+/// with the cycle where it stops. A third of all traces have unknown bits.
 pub fn trace(random: &mut Random, config: Config, cycles: usize) -> Vec<u32> {
     if config.refusal() != 0 {
-        return random.words(4 * cycles);
+        return random.words(FRAME_WORDS * cycles);
     }
     let mut style = style(random);
     let (mut first, mut trace) = (0, Vec::new());
@@ -396,20 +399,24 @@ pub fn trace(random: &mut Random, config: Config, cycles: usize) -> Vec<u32> {
             plant_triggers(random, config, &mut trace, s);
         }
     }
+    if random.chance(341) {
+        unknown::put(random, config, &mut trace);
+    }
     if config.is_fatal() && random.chance(80) {
         put_stop_last(random, config, &mut trace);
     }
     trace
 }
 
-/// Cuts the trace behind the cycle where it stops a fatal checker, and fills it up from the front, with cycles in reset.
+/// Cuts the trace behind the cycle where it stops a fatal checker, and fills it up from the front, with cycles in reset and
+/// without unknown bits.
 fn put_stop_last(random: &mut Random, config: Config, trace: &mut Vec<u32>) {
     let words = rules::true_record(config, trace).words;
     let Some(stop) = words.iter().position(|word| *word == STOPPED) else { return };
-    let mut front = random.words(trace.len() - 4 * (stop + 1));
-    front.iter_mut().step_by(4).for_each(|reset| *reset &= !1);
-    trace.truncate(4 * (stop + 1));
-    trace.splice(..0, front);
+    let cycles = trace.len() / FRAME_WORDS;
+    trace.truncate(FRAME_WORDS * (stop + 1));
+    let in_reset = |_| rules::known([random.word() & !1, random.word(), random.word(), random.word()]);
+    trace.splice(..0, (stop + 1..cycles).flat_map(in_reset));
 }
 
 /// What is certain of the tested cycles of a window: the last does not fail, or it does, or all do.
@@ -422,20 +429,20 @@ pub enum Failing {
 
 fn put_start(config: Config, trace: &mut [u32], s: usize) {
     if config.is_time() {
-        put_bit(&mut trace[4 * s + 1], config.p, 0, true);
+        put_bit(&mut trace[FRAME_WORDS * s + 1], config.p, 0, true);
     } else {
-        put_bit(&mut trace[4 * s], ENABLE, 0, true);
-        put_bit(&mut trace[4 * s + 2], config.q, 0, true);
+        put_bit(&mut trace[FRAME_WORDS * s], ENABLE, 0, true);
+        put_bit(&mut trace[FRAME_WORDS * s + 2], config.q, 0, true);
     }
 }
 
 /// Makes a tested cycle pass or fail; `right` is the tracked value that passes.
 fn put_outcome(config: Config, trace: &mut [u32], t: usize, right: u32, passes: bool) {
     if config.is_time() {
-        put_bit(&mut trace[4 * t + 2], config.q, 0, passes);
+        put_bit(&mut trace[FRAME_WORDS * t + 2], config.q, 0, passes);
     } else {
-        put_bit(&mut trace[4 * t], ENABLE, 0, true);
-        put_value(&mut trace[4 * t + 1], config.p, right ^ u32::from(!passes));
+        put_bit(&mut trace[FRAME_WORDS * t], ENABLE, 0, true);
+        put_value(&mut trace[FRAME_WORDS * t + 1], config.p, right ^ u32::from(!passes));
     }
 }
 
@@ -459,6 +466,11 @@ pub fn window_trace(random: &mut Random, config: Config, cycles: usize, s: usize
         put_outcome(config, &mut trace, first, right, true);
     }
     put_start(config, &mut trace, s);
+    if random.chance(400) {
+        // Where all fail, and in the cycles that were made for this, no test is unknown.
+        let between = if failing == Failing::All { 0..0 } else { first + 1..last };
+        unknown::put_between(random, config, &mut trace, between);
+    }
     trace
 }
 
@@ -475,7 +487,7 @@ pub fn long_trace(random: &mut Random, config: Config, cycles: usize) -> Vec<u32
         put_start(config, &mut trace, second);
     }
     if random.chance(128) {
-        trace[4 * random.below(cycles)] &= !1;
+        trace[FRAME_WORDS * random.below(cycles)] &= !1;
     }
     trace
 }
@@ -485,10 +497,12 @@ pub fn edited_in_cycle_0(random: &mut Random, config: Config, old: &[u32]) -> Ve
     let mut new = old.to_vec();
     let (port, start) = if config.is_time() { (1, config.p) } else { (2, config.q) };
     let needed = if config.is_time() { 1 } else { random.pick(&[1, 2]) };
+    // By its unknown bit too: an unknown start is none, as is a start that is 0.
+    let unknown = random.pick(&[0, 0, rules::TO_UNKNOWN]);
     if random.chance(512) {
-        new[port] ^= 1 << start.wire(0);
+        new[port + unknown] ^= 1 << start.wire(0);
     } else {
-        new[0] ^= needed;
+        new[unknown] ^= needed;
     }
     new
 }
@@ -497,11 +511,14 @@ pub fn edited_in_cycle_0(random: &mut Random, config: Config, old: &[u32]) -> Ve
 fn edit_stop(random: &mut Random, config: Config, trace: &mut [u32], a: usize) {
     let (drawn, is_calm) = (style(random), random.chance(512));
     let style = if is_calm { calm(config, &drawn) } else { wild(&drawn) };
-    let frames = styled_frames(random, config, trace.len() / 4 - a, &style);
-    trace[4 * a..].copy_from_slice(&frames);
+    let frames = styled_frames(random, config, trace.len() / FRAME_WORDS - a, &style);
+    trace[FRAME_WORDS * a..].copy_from_slice(&frames);
+    if random.chance(200) {
+        unknown::put(random, config, &mut trace[FRAME_WORDS * a..]);
+    }
     if is_calm && random.chance(512) {
         // What was open before need not pass.
-        trace[4 * a] &= !1;
+        trace[FRAME_WORDS * a] &= !1;
     } else if !is_calm && config.is_sequence() {
         plant_attempt(random, config, trace, a);
     }
@@ -511,18 +528,19 @@ fn edit_stop(random: &mut Random, config: Config, trace: &mut [u32], a: usize) {
 pub fn edited(random: &mut Random, config: Config, old: &[u32], a: usize, b: usize) -> Vec<u32> {
     let mut new = old.to_vec();
     match random.below(5) {
-        _ if config.is_fatal() && a < b && random.chance(768) => edit_stop(random, config, &mut new[..4 * b], a),
-        0 | 1 => new[4 * a..4 * b].copy_from_slice(&trace(random, config, b - a)),
+        _ if random.chance(200) => unknown::edit(random, config, &mut new[FRAME_WORDS * a..FRAME_WORDS * b]),
+        _ if config.is_fatal() && a < b && random.chance(768) => edit_stop(random, config, &mut new[..FRAME_WORDS * b], a),
+        0 | 1 => new[FRAME_WORDS * a..FRAME_WORDS * b].copy_from_slice(&trace(random, config, b - a)),
         2 => {
             for t in a..b {
                 let port = 1 + random.below(3);
-                new[4 * t + port] ^= random.dense_word(-4);
+                new[FRAME_WORDS * t + port] ^= random.dense_word(-4);
             }
         }
         _ => {
             let reset_n_or_enable = random.below(2);
             for t in a..b {
-                new[4 * t] ^= u32::from(random.chance(100)) << reset_n_or_enable;
+                new[FRAME_WORDS * t] ^= u32::from(random.chance(100)) << reset_n_or_enable;
             }
         }
     }
@@ -564,9 +582,9 @@ fn possible_stability_word(random: &mut Random, config: Config) -> u64 {
     let (min, max) = (u64::from(config.min), u64::from(config.n));
     let any = random.next();
     let mut words = vec![0];
-    if min > 0 {
+    if max > 0 {
         // Also where the next cycle is the first that can be the reference.
-        words.extend([1, max, max - min + 1, 1 + any % max]);
+        words.extend([1, max, max.min(max - min + 1), 1 + any % max]);
     }
     if max > min {
         let greatest = u64::MAX >> (64 - config.p.width());
@@ -624,10 +642,8 @@ fn impossible_stability_word(random: &mut Random, config: Config) -> u64 {
     let any = random.next();
     let above = 1 << config.p.width();
     let fits = any >> 32 & (above - 1);
-    let mut words = vec![max + 1, with_reference(0, fits), with_reference(max - min + 1, fits)];
+    let mut words = vec![max + 1, max + 1, with_reference(0, fits), with_reference(max - min + 1, fits)];
     words.extend([with_reference(1, above); 2]);
-    // Without a reference, where min is 0.
-    words.extend([1, 1, max, max]);
     // 65,536 cycles left would be a reference more by one, and none left.
     let longest = u64::from(LONGEST_WINDOW);
     words.extend([longest, longest + 1, longest + 1, with_reference(longest, fits), with_reference(longest + 1, fits)]);

@@ -31,7 +31,8 @@ impl HostConfig {
 #[rustfmt::skip]
 extern "C" {
     fn selvedgeon_step(kind: u8, n: u32, p_left: u8, p_right: u8, q_left: u8, q_right: u8, r_left: u8, r_right: u8,
-        min: u32, value: u32, severity: u8, reset: u32, p: u32, q: u32, r: u32, word: *mut u8, word_len: usize) -> u32;
+        min: u32, value: u32, severity: u8, reset: u32, p: u32, q: u32, r: u32, reset_x: u32, p_x: u32, q_x: u32, r_x: u32,
+        word: *mut u8, word_len: usize) -> u32;
     fn selvedgeon_check(kind: u8, n: u32, p_left: u8, p_right: u8, q_left: u8, q_right: u8, r_left: u8, r_right: u8,
         min: u32, value: u32, severity: u8, trace: *const u32, trace_len: usize, rows: *mut u32, rows_len: usize,
         words: *mut u64, words_len: usize) -> u32;
@@ -125,13 +126,13 @@ impl<T: Entry> Lent<T> {
 
 pub fn step(c: Config, frame: Frame, word: &mut [u8]) -> Result<u32, String> {
     let mut bytes = Lent::new("word", word);
-    let [reset, p, q, r] = frame;
+    let [reset, p, q, r, reset_x, p_x, q_x, r_x] = frame;
     let (pointer, len) = (bytes.pointer(), bytes.len());
     // SAFETY: pointer and length are those of a live buffer that no other reference uses; so in every call below.
     #[rustfmt::skip]
     let answer = unsafe {
         selvedgeon_step(c.kind, c.n, c.p.left, c.p.right, c.q.left, c.q.right, c.r.left, c.r.right, c.min, c.value,
-            c.severity, reset, p, q, r, pointer, len)
+            c.severity, reset, p, q, r, reset_x, p_x, q_x, r_x, pointer, len)
     };
     bytes.give_back(word)?;
     Ok(answer)

@@ -1,4 +1,4 @@
-//! A second program for the rules of document 01 with §2 and §4 to §7 of document 02, and a comparison of the library with
+//! A second program for the rules of document 01 with §2 and §4 to §8 of document 02, and a comparison of the library with
 //! it on many inputs.
 //!
 //! SEED=n sets the seed; CASES=n or SECONDS=n how long to run; CASE=n runs one case alone.
@@ -12,6 +12,7 @@ mod rules;
 mod small;
 mod spoiled;
 mod tally;
+mod unknown;
 mod whiteboard;
 mod windows;
 

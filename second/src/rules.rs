@@ -1,10 +1,13 @@
-//! The rules of document 01, with §2 and §4 to §7 of document 02, as a search over starts. A full check looks, for every
+//! The rules of document 01, with §2 and §4 to §8 of document 02, as a search over starts. A full check looks, for every
 //! cycle, for the starts that matter in it; a step from an open word builds a trace that leaves this word and asks the same
 //! search about the cycle behind it, and a recheck about all cycles behind it. All of this is about a checker that goes on; a
-//! fatal one has its rows and words up to the first cycle that fails. The sentence that a function follows is quoted above it,
-//! from document 01 where no other is named.
+//! fatal one has its rows and words up to the first cycle that fails. A sample is an Option, and None is unknown. The sentence
+//! that a function follows is quoted above it, from document 01 where no other is named.
 
-pub const MARKS: [u32; 5] = [1, 2, 4, 8, 16];
+/// §8: "Six counts instead of five."
+pub const MARKS: [u32; 6] = [1, 2, 4, 8, 16, 32];
+/// What a recheck answers: "e and five signed changes, one per mark", by §8 six.
+pub const ANSWERS: usize = 1 + MARKS.len();
 pub const MOST_CYCLES: usize = 65_536;
 pub const MOST_CHECKERS: usize = 64;
 /// §5: "Raise n for kinds 3 to 5 from 1,024 to 65,535, and max in §4 too. 65,536 is refusal 2."
@@ -15,7 +18,35 @@ const REFERENCE_SHIFT: u32 = 16;
 /// §7: "the open word is 2^63 to the end of the trace"
 pub const STOPPED: u64 = 1 << 63;
 
-pub type Frame = [u32; 4];
+/// §8: "A frame gets four more words after them, one per existing word in order, where a 1 means that the wire is x or z".
+pub const FRAME_WORDS: usize = 8;
+pub type Frame = [u32; FRAME_WORDS];
+/// From a word of a frame to its unknown bits.
+pub const TO_UNKNOWN: usize = 4;
+
+/// A frame without unknown bits.
+pub const fn known([reset, p, q, r]: [u32; 4]) -> Frame {
+    [reset, p, q, r, 0, 0, 0, 0]
+}
+
+pub fn frame_at(trace: &[u32], t: usize) -> Frame {
+    std::array::from_fn(|i| trace[FRAME_WORDS * t + i])
+}
+
+/// Whether a wire of the reset word is 1. §8: "Unknown reset counts as reset, unknown enable as 0."
+fn control(frame: &[u32], wire: u32) -> bool {
+    frame[0] >> wire & 1 == 1 && frame[TO_UNKNOWN] >> wire & 1 == 0
+}
+
+/// "Reset_n is bit 0 of the first word"
+pub fn is_running(frame: &[u32]) -> bool {
+    control(frame, 0)
+}
+
+/// §4: "Enable is reset word bit 1."
+pub fn is_enabled(frame: &[u32]) -> bool {
+    control(frame, 1)
+}
 
 #[derive(Clone, Copy, Debug, PartialEq, Eq)]
 pub struct Range {
@@ -176,13 +207,12 @@ impl Config {
         }
     }
 
-    /// A trigger is seen only where enable is 1, so with min 0 the reference is there from s on, and a window without one
-    /// needs a min above 0. It can then last to the end, where enable stays 0. A reference is there from s+min at the
-    /// earliest, with max−min cycles left.
+    /// A window has no reference where P is unknown in its trigger cycle, or s+min is later, and enable stays 0: that can last
+    /// to the end. A reference is there from s+min at the earliest, with max−min cycles left.
     fn possible_stability_window(self, word: u64) -> bool {
         let (min, max) = (u64::from(self.min), u64::from(self.n));
         match reference_in(word) {
-            None => min > 0 && (1..=max).contains(&word),
+            None => (1..=max).contains(&word),
             Some(r) => r < 1 << self.p.width() && (1..=max - min).contains(&cycles_left_in(word)),
         }
     }
@@ -219,14 +249,16 @@ struct Verdict {
     opened: bool,
     closed: bool,
     restarted: bool,
+    unknown: bool,
     word: u64,
 }
 
 impl Verdict {
     /// "A row holds a cycle's marks, summed: 1 failure; 2 illegal start; 4 trigger, window opened, or start state seen;
-    /// 8 window closed; 16 window reset."
+    /// 8 window closed; 16 window reset." §8: "An unknown bit in a tested value […] sets the new mark 32".
     fn row(&self) -> u32 {
-        let has = [!self.failed.is_empty(), self.illegal.is_some(), self.opened, self.closed, self.restarted];
+        let failed = !self.failed.is_empty();
+        let has = [failed, self.illegal.is_some(), self.opened, self.closed, self.restarted, self.unknown];
         MARKS.iter().zip(has).filter(|(_, has)| *has).map(|(mark, _)| mark).sum()
     }
 }
@@ -240,62 +272,81 @@ struct Attempt {
 /// A trace as one checker reads it, with the starts that were accepted.
 struct History {
     config: Config,
-    p: Vec<u32>,
-    q: Vec<u32>,
-    r: Vec<u32>,
+    p: Vec<Sample>,
+    q: Vec<Sample>,
+    r: Vec<Sample>,
     /// How many cycles without a reset end with this one; 0 in a cycle with reset.
     running: Vec<usize>,
     attempts: Vec<Attempt>,
     /// Time: the cycles from which n pending cycles were counted.
     counted: Vec<usize>,
-    /// §4: "Enable is reset word bit 1."
     enable: Vec<bool>,
-    /// §4: the first cycle from this one on with enable 1; where there is none, the number of cycles.
-    next_enabled: Vec<usize>,
+    /// §4: the first cycle from this one on with enable 1 and all of P known; where there is none, the number of cycles.
+    next_reference: Vec<usize>,
     /// §4: the accepted triggers.
     triggers: Vec<usize>,
 }
 
-/// The values of a port, cycle by cycle. Traces that leave a word repeat a frame up to 65,535 times: a word like the one
-/// before it is not read again.
-fn read_port(trace: &[u32], i: usize, range: Range) -> Vec<u32> {
-    let mut last = (0, range.value(0));
-    let mut read = |word: u32| {
-        if word != last.0 {
-            last = (word, range.value(word));
+/// What is on a port in one cycle: bit k of `unknown` is 1 where bit k of the value is unknown. §8: "Value bits under a 1 are
+/// ignored."
+#[derive(Clone, Copy)]
+struct Sample {
+    value: u32,
+    unknown: u32,
+}
+
+impl Sample {
+    fn bit(self, k: usize) -> Option<bool> {
+        (self.unknown >> k & 1 == 0).then_some(self.value >> k & 1 == 1)
+    }
+
+    /// None where any bit is unknown.
+    fn whole(self) -> Option<u32> {
+        (self.unknown == 0).then_some(self.value)
+    }
+}
+
+/// The samples of a port, cycle by cycle. Traces that leave a word repeat a frame up to 65,535 times: words like those before
+/// them are not read again.
+fn read_port(trace: &[u32], i: usize, range: Range) -> Vec<Sample> {
+    let mut last = ((0, 0), Sample { value: 0, unknown: 0 });
+    let mut read = |word: u32, unknown: u32| {
+        if (word, unknown) != last.0 {
+            last = ((word, unknown), Sample { value: range.value(word), unknown: range.value(unknown) });
         }
         last.1
     };
-    trace.chunks_exact(4).map(|frame| read(frame[i])).collect()
+    trace.chunks_exact(FRAME_WORDS).map(|frame| read(frame[i], frame[i + TO_UNKNOWN])).collect()
 }
 
 /// Looked up rather than searched for in every cycle of a window, which could take as many looks as the window is long.
-fn next_enabled(enable: &[bool]) -> Vec<usize> {
+fn next_reference(enable: &[bool], p: &[Sample]) -> Vec<usize> {
     let mut next = vec![enable.len(); enable.len() + 1];
     for t in (0..enable.len()).rev() {
-        next[t] = if enable[t] { t } else { next[t + 1] };
+        next[t] = if enable[t] && p[t].whole().is_some() { t } else { next[t + 1] };
     }
     next
 }
 
 impl History {
     fn new(config: Config, trace: &[u32]) -> History {
-        let enable: Vec<bool> = trace.chunks_exact(4).map(|frame| frame[0] >> 1 & 1 == 1).collect();
+        let enable: Vec<bool> = trace.chunks_exact(FRAME_WORDS).map(is_enabled).collect();
+        let p = read_port(trace, 1, config.p);
         let mut history = History {
             config,
-            p: read_port(trace, 1, config.p),
+            next_reference: next_reference(&enable, &p),
+            p,
             q: read_port(trace, 2, config.q),
             r: read_port(trace, 3, config.r),
             running: Vec::new(),
             attempts: Vec::new(),
             counted: Vec::new(),
-            next_enabled: next_enabled(&enable),
             enable,
             triggers: Vec::new(),
         };
-        for frame in trace.chunks_exact(4) {
+        for frame in trace.chunks_exact(FRAME_WORDS) {
             let before = history.running.last().copied().unwrap_or(0);
-            history.running.push(if frame[0] & 1 == 1 { before + 1 } else { 0 });
+            history.running.push(if is_running(frame) { before + 1 } else { 0 });
         }
         for s in 0..history.p.len() {
             if history.running[s] > 0 {
@@ -335,25 +386,21 @@ impl History {
         }
     }
 
-    fn event(&self, t: usize, bit: usize) -> bool {
-        self.p[t] >> bit & 1 == 1
-    }
-
     /// "It is alive through s+j when event bit n−1−i was 1 at s+i for each i from 0 to j, with no reset between."
-    /// The answer is how many such j there are.
+    /// The answer is how many such j there are. An unknown bit is not 1, whether it ends the attempt with a mark or without.
     fn lived(&self, s: usize) -> usize {
         let n = self.config.n as usize;
         let end = self.p.len().min(s + n);
-        (s..end).take_while(|&t| self.running[t] > 0 && self.event(t, n - 1 - (t - s))).count()
+        (s..end).take_while(|&t| self.running[t] > 0 && self.p[t].bit(n - 1 - (t - s)) == Some(true)).count()
     }
 
     /// "An attempt starts at s when event bit n−1 is 1." "Kinds 0 and 1 accept every start. Kind 2 ignores a start in any
     /// cycle where an accepted attempt alive through the cycle before is still being tested, also its last cycle and also
-    /// the cycle where it fails"
+    /// the cycle where it fails"; and so where an unknown bit ends it. §8: "An unknown start […] bit […] is no start."
     fn accepts_attempt(&self, s: usize) -> bool {
         let n = self.config.n as usize;
         let tested = |attempt: &Attempt| s - attempt.start <= n - 1 && attempt.start + attempt.lived >= s;
-        self.event(s, n - 1) && !(self.config.kind == 2 && self.attempts.last().is_some_and(tested))
+        self.p[s].bit(n - 1) == Some(true) && !(self.config.kind == 2 && self.attempts.last().is_some_and(tested))
     }
 
     /// The accepted attempts that can matter in t: those that started in t−(n−1) to t.
@@ -367,15 +414,20 @@ impl History {
     /// "Kinds 1 and 2 fail at s+j, j from 1 to n−1, when the attempt was alive through s+j−1 and bit n−1−j is 0. Kind 0
     /// fails only for j = n−1. Mark 4: kinds 1 and 2 at an accepted start, kind 0 when an attempt is alive through s+n−2.
     /// Bit j of the open word after t, j from 0 to n−2, is 1 exactly when an accepted attempt from t−j is alive through t."
+    /// §8: "An unknown bit in a tested value is neither pass nor failure: it sets the new mark 32, ends that sequence attempt";
+    /// "For kind 0 an unknown bit before the last event reads as 0, without mark."
     fn sequence(&self, t: usize) -> Verdict {
         let n = self.config.n as usize;
         let mut verdict = Verdict::default();
         for attempt in self.recent_attempts(t) {
             let j = t - attempt.start;
             let alive = attempt.lived > j;
-            let fails_here = if self.config.kind == 0 { j == n - 1 } else { j >= 1 };
-            if fails_here && attempt.lived == j {
-                verdict.failed.push(attempt.start);
+            let tested_here = if self.config.kind == 0 { j == n - 1 } else { j >= 1 };
+            if tested_here && attempt.lived == j {
+                match self.p[t].bit(n - 1 - j) {
+                    Some(_) => verdict.failed.push(attempt.start),
+                    None => verdict.unknown = true,
+                }
             }
             if alive && j == if self.config.kind == 0 { n - 2 } else { 0 } {
                 verdict.opened = true;
@@ -390,7 +442,12 @@ impl History {
     /// "With nothing pending, start 1 at s opens a check"; "kind 3 ignores it; kind 4 […] counts n cycles afresh from there;
     /// kind 5 […] carries on."
     fn counts_from(&self, s: usize) -> bool {
-        self.p[s] == 1 && (self.config.kind == 4 || self.pending(s).is_none())
+        self.starts(s) && (self.config.kind == 4 || self.pending(s).is_none())
+    }
+
+    /// §8: "An unknown start […] bit […] is no start": so it neither restarts a check, nor is it illegal.
+    fn starts(&self, t: usize) -> bool {
+        self.p[t].whole() == Some(1)
     }
 
     /// "It is pending in s+1 to s+n". The answer is the start from which the check pending in t counts.
@@ -409,7 +466,7 @@ impl History {
 
     /// "With nothing pending, start 1 at s opens a check (mark 4); test is not sampled at s."
     fn idle_cycle(&self, t: usize) -> Verdict {
-        let opened = self.p[t] == 1;
+        let opened = self.starts(t);
         Verdict { opened, word: if opened { u64::from(self.config.n) } else { 0 }, ..Verdict::default() }
     }
 
@@ -417,39 +474,57 @@ impl History {
     /// Start 1 while pending: kind 3 ignores it; kind 4 sets mark 16 only, takes no test, and counts n cycles afresh from
     /// there; kind 5 sets mark 2, tests as usual and carries on. The open word is the number of pending cycles left."
     /// Document 02, §2, changes "mark 16 only" and nothing else of this: "By source document 001 a new check is initiated
-    /// there, which is what window_open means. So a restart sets 16 and 4, row 20." That is without mark 8, also at s+n.
+    /// there, which is what window_open means. So a restart sets 16 and 4, row 20." That is without mark 8, also at s+n; and
+    /// without 32: it takes no test. §8, of an unknown test: it "sets the new mark 32, […] and lets a time check […] carry on".
     fn pending_cycle(&self, s: usize, t: usize) -> Verdict {
         let n = self.config.n as usize;
-        let start = self.p[t] == 1;
+        let (start, test) = (self.starts(t), self.q[t].whole());
         if start && self.config.kind == 4 {
             return Verdict { opened: true, restarted: true, word: n as u64, ..Verdict::default() };
         }
         Verdict {
-            failed: if self.q[t] == 0 { vec![s] } else { Vec::new() },
+            failed: if test == Some(0) { vec![s] } else { Vec::new() },
             illegal: (start && self.config.kind == 5).then_some(s),
             closed: t == s + n,
+            unknown: test.is_none(),
             word: (s + n - t) as u64,
             ..Verdict::default()
         }
     }
 
-    /// "When test equals start state, mark 4 is set and next state is stored. At the next cycle, test different from the
-    /// stored value is a failure; the same cycle may start again. […] The open word is 0, or 2^32 plus the stored value."
+    /// "When test equals start state, mark 4 is set and next state is stored." §8: an unknown bit "in a start comparison, is no
+    /// start".
+    fn start_seen(&self, s: usize) -> bool {
+        let (test, start_state) = (self.p[s].whole(), self.q[s].whole());
+        self.running[s] > 0 && test.is_some() && test == start_state
+    }
+
+    /// §8: "An unknown next state at a start sets 4 and 32 and stores nothing."
+    fn stored(&self, s: usize) -> Option<u32> {
+        self.r[s].whole().filter(|_| self.start_seen(s))
+    }
+
+    /// "At the next cycle, test different from the stored value is a failure; the same cycle may start again. […] The open word
+    /// is 0, or 2^32 plus the stored value." §8, of an unknown bit in the test: "neither pass nor failure: it sets the new mark
+    /// 32, ends that […] transition check".
     fn transition(&self, t: usize) -> Verdict {
-        let seen = |s: usize| self.running[s] > 0 && self.p[s] == self.q[s];
-        let failed = t > 0 && seen(t - 1) && self.p[t] != self.r[t - 1];
+        let due = t.checked_sub(1).and_then(|s| self.stored(s));
+        let (test, opened, stored) = (self.p[t].whole(), self.start_seen(t), self.stored(t));
+        let failed = due.is_some() && test.is_some() && test != due;
         Verdict {
             failed: if failed { vec![t - 1] } else { Vec::new() },
-            opened: seen(t),
-            word: if seen(t) { STORED + u64::from(self.r[t]) } else { 0 },
+            opened,
+            unknown: due.is_some() && test.is_none() || opened && stored.is_none(),
+            word: stored.map_or(0, |value| STORED + u64::from(value)),
             ..Verdict::default()
         }
     }
 
     /// §4: "A cycle with enable 0 counts towards the delay, but nothing is tested and no trigger seen"; "after an accepted
-    /// trigger at s every trigger in s+1 to s+max, the cycles before s+min included, is ignored."
+    /// trigger at s every trigger in s+1 to s+max, the cycles before s+min included, is ignored." §8: "An unknown […] trigger
+    /// bit […] is no start."
     fn accepts_trigger(&self, s: usize) -> bool {
-        self.enable[s] && self.q[s] == 1 && self.window(s).is_none()
+        self.enable[s] && self.q[s].whole() == Some(1) && self.window(s).is_none()
     }
 
     /// The accepted trigger s with t in s to s+max. There is one at most: the next accepted trigger is above s+max, or
@@ -461,33 +536,41 @@ impl History {
     }
 
     /// §4: "A failure does not end the window"; "Marks are 1, 4 at the trigger, 8 at s+max. The listed start is the trigger
-    /// cycle."
+    /// cycle." §8: an unknown bit in a tested value "sets the new mark 32, […] and lets […] a §4 window carry on; in a
+    /// stability window it sets 32 also before there is a reference".
     fn after_trigger(&self, t: usize) -> Verdict {
         let Some(s) = self.window(t) else { return Verdict::default() };
         Verdict {
             failed: if self.is_violated(s, t) { vec![s] } else { Vec::new() },
             opened: t == s,
             closed: t == s + self.config.n as usize,
+            unknown: self.is_tested(s, t) && self.p[t].whole().is_none(),
             word: self.window_word(s, t),
             ..Verdict::default()
         }
     }
 
-    /// §4: the value check tests "from min to max cycles after trigger", "Both limits are inclusive"; "Stability compares
-    /// with the first enabled cycle from s+min on." In that cycle itself it compares equal.
-    fn is_violated(&self, s: usize, t: usize) -> bool {
-        let due = if self.config.kind == 7 {
-            (t >= s + self.config.min as usize).then_some(self.config.value)
-        } else {
-            self.reference(s, t)
-        };
-        self.enable[t] && due.is_some_and(|due| self.p[t] != due)
+    /// §4: "from min to max cycles after trigger", "Both limits are inclusive"; with enable 0 "nothing is tested".
+    fn is_tested(&self, s: usize, t: usize) -> bool {
+        self.enable[t] && t >= s + self.config.min as usize
     }
 
-    /// P of the first enabled cycle from s+min on, if there was one up to t.
+    /// §4: "Stability compares with the first enabled cycle from s+min on." In that cycle itself it compares equal.
+    fn is_violated(&self, s: usize, t: usize) -> bool {
+        let due = if self.config.kind == 7 { Some(self.config.value) } else { self.reference(s, t) };
+        let tested = self.p[t].whole();
+        self.is_tested(s, t) && tested.is_some() && tested != due
+    }
+
+    /// P of the first enabled cycle from s+min on, if there was one up to t. §8, of one where it is unknown: it "never becomes
+    /// one".
     fn reference(&self, s: usize, t: usize) -> Option<u32> {
-        let u = *self.next_enabled.get(s + self.config.min as usize)?;
-        (u <= t).then(|| self.p[u])
+        let u = *self.next_reference.get(s + self.config.min as usize)?;
+        if u <= t {
+            self.p[u].whole()
+        } else {
+            None
+        }
     }
 
     /// §4: "The open word is the cycles left to s+max; an open kind 8 window that holds a reference r adds 2^48 plus r times
@@ -498,7 +581,8 @@ impl History {
         reference.map_or(left, |r| with_reference(left, u64::from(r)))
     }
 
-    /// The cycle in which a fatal checker stops: the first with mark 1 or 2 on the checker that goes on.
+    /// The cycle in which a fatal checker stops: the first with mark 1 or 2 on the checker that goes on. §8: "Mark 32 is no
+    /// failure for list, first failure or §7."
     fn stop(&self) -> Option<usize> {
         let fails = |t: &usize| self.verdict(*t).row() & 3 != 0;
         (0..self.p.len()).find(|t| self.config.is_fatal() && fails(t))
@@ -535,18 +619,18 @@ fn failing_step(config: Config) -> (u64, Frame) {
     let (min, max) = (u64::from(config.min), u64::from(config.n));
     match config.kind {
         // An attempt alive through s+n−2, and no event: that is a failure for kind 0 too.
-        0..=2 => (1 << (config.n - 2), [1, 0, 0, 0]),
+        0..=2 => (1 << (config.n - 2), known([1, 0, 0, 0])),
         // Test 0 in the cycle after the start.
-        3..=5 => (max, [1, 0, 0, 0]),
+        3..=5 => (max, known([1, 0, 0, 0])),
         // In s+min, which is the trigger cycle itself for min 0. Later a trigger is ignored.
         7 => {
             let before = if min == 0 { 0 } else { max - min + 1 };
-            (before, [3, config.p.wires(config.value ^ 1), 1 << config.q.wire(0), 0])
+            (before, known([3, config.p.wires(config.value ^ 1), 1 << config.q.wire(0), 0]))
         }
         // In s+min+1, with the reference 0 of s+min.
-        8 => (with_reference(max - min, 0), [3, config.p.wires(1), 0, 0]),
+        8 => (with_reference(max - min, 0), known([3, config.p.wires(1), 0, 0])),
         // The stored value is 0.
-        _ => (STORED, [1, config.p.wires(1), 0, 0]),
+        _ => (STORED, known([1, config.p.wires(1), 0, 0])),
     }
 }
 
@@ -562,19 +646,19 @@ fn trace_that_leaves(config: Config, word: u64) -> Vec<u32> {
         // Bit j of the word is an attempt from t−j, with t = n−2 the last cycle: its wires are set and no others, so that
         // no second attempt starts.
         let n = config.n as usize;
-        trace = [1, 0, 0, 0].repeat(n - 1);
+        trace = known([1, 0, 0, 0]).repeat(n - 1);
         for j in (0..n - 1).filter(|j| word >> j & 1 == 1) {
             for i in 0..=j {
-                trace[4 * (n - 2 - j + i) + 1] |= 1 << config.p.wire((n - 1 - i) as u32);
+                trace[FRAME_WORDS * (n - 2 - j + i) + 1] |= 1 << config.p.wire((n - 1 - i) as u32);
             }
         }
     } else if config.is_time() && word > 0 {
         // One start, then as many quiet cycles as leave this many pending ones.
-        trace = vec![1, 1 << config.p.wire(0), 0, 0];
-        trace.extend([1, 0, 1 << config.q.wire(0), 0].repeat(config.n as usize - word as usize));
+        trace = known([1, 1 << config.p.wire(0), 0, 0]).to_vec();
+        trace.extend(known([1, 0, 1 << config.q.wire(0), 0]).repeat(config.n as usize - word as usize));
     } else if config.kind == 6 && word > 0 {
         // Test and start state are 0, so they are equal.
-        trace = vec![1, 0, 0, config.r.wires((word - STORED) as u32)];
+        trace = known([1, 0, 0, config.r.wires((word - STORED) as u32)]).to_vec();
     } else if config.is_after_trigger() && word > 0 {
         trace = window_that_leaves(config, word);
     }
@@ -582,15 +666,18 @@ fn trace_that_leaves(config: Config, word: u64) -> Vec<u32> {
 }
 
 /// A trigger, then as many cycles as leave this many in the window. With a reference, P has its value and enable is 1 from
-/// the trigger on; without one, enable is 0 after the trigger, so that none is taken. For kind 7, P has the expected value: with
-/// min 0 the trigger cycle is tested.
+/// the trigger on; without one, enable is 0 after the trigger, and for kind 8 P is unknown in it, so that none is taken. For kind
+/// 7, P has the expected value: with min 0 the trigger cycle is tested.
 fn window_that_leaves(config: Config, word: u64) -> Vec<u32> {
     let reference = reference_in(word);
     let left = if reference.is_some() { cycles_left_in(word) } else { word };
     let p = config.p.wires(reference.map_or(config.value, |r| r as u32));
-    let mut trace = vec![3, p, 1 << config.q.wire(0), 0];
+    let mut trace = known([3, p, 1 << config.q.wire(0), 0]).to_vec();
+    if config.kind == 8 && reference.is_none() {
+        trace[1 + TO_UNKNOWN] = config.p.wires(1);
+    }
     let after = if reference.is_some() { 3 } else { 1 };
-    trace.extend([after, p, 0, 0].repeat(config.n as usize - left as usize));
+    trace.extend(known([after, p, 0, 0]).repeat(config.n as usize - left as usize));
     trace
 }
 
@@ -598,7 +685,7 @@ fn window_that_leaves(config: Config, word: u64) -> Vec<u32> {
 /// do after that trace." So do the steps that follow.
 fn record_after(config: Config, word: u64, frames: &[u32]) -> Record {
     let mut trace = trace_that_leaves(config, word);
-    let first = trace.len() / 4;
+    let first = trace.len() / FRAME_WORDS;
     trace.extend(frames);
     History::new(config, &trace).record_from(first)
 }
@@ -633,10 +720,10 @@ pub fn step(config: Config, frame: Frame, bytes: &mut [u8]) -> u32 {
     row
 }
 
-/// Refusal 4: "trace not a multiple of 4 words, or N above 65,536"
+/// Refusal 4: "trace not a multiple of 4 words, or N above 65,536"; §8: "A trace is then 8N words (refusal 4: a multiple of 8)".
 fn trace_refusal(config: Config, trace: &[u32]) -> u32 {
     match config.refusal() {
-        0 if trace.len() % 4 != 0 || trace.len() / 4 > MOST_CYCLES => 4,
+        0 if trace.len() % FRAME_WORDS != 0 || trace.len() / FRAME_WORDS > MOST_CYCLES => 4,
         refusal => refusal,
     }
 }
@@ -647,7 +734,7 @@ pub fn check(config: Config, trace: &[u32], rows: &mut [u32], words: &mut [u64])
     if refusal != 0 {
         return refusal;
     }
-    if rows.len() != trace.len() / 4 || words.len() != trace.len() / 4 {
+    if rows.len() != trace.len() / FRAME_WORDS || words.len() != trace.len() / FRAME_WORDS {
         return 5;
     }
     let record = true_record(config, trace);
@@ -687,11 +774,11 @@ pub struct Edit<'a> {
 impl Edit<'_> {
     /// Refusals 1 to 6 "by number": 5 "another lent slice has not the length that is due", 6 "a above b, or b above N".
     fn refusal_before_words(&self, rows: &[u32], words: &[u64], answer: &[i32]) -> u32 {
-        let cycles = self.trace.len() / 4;
+        let cycles = self.trace.len() / FRAME_WORDS;
         let refusal = trace_refusal(self.config, self.trace);
         if refusal != 0 {
             refusal
-        } else if rows.len() != cycles || words.len() != cycles || answer.len() != 6 {
+        } else if rows.len() != cycles || words.len() != cycles || answer.len() != ANSWERS {
             5
         } else if self.a > self.b || self.b > cycles as u64 {
             6
@@ -733,14 +820,15 @@ impl Edit<'_> {
 
     /// The recheck of any record: "goes on from kept word a−1 (0 when a is 0), one step for each cycle of the lent trace from
     /// a on. It ends at e, the least cycle from b to N such that e is N or its word before e equals the kept one […]. It
-    /// writes a to e−1 only. It answers e and five signed changes, one per mark: new count less old count over a to e−1".
+    /// writes a to e−1 only. It answers e and five signed changes, one per mark: new count less old count over a to e−1". By §8
+    /// there are six.
     pub fn recheck_any(&self, rows: &mut [u32], words: &mut [u64], answer: &mut [i32]) -> Refusal {
         let refusal = self.refusal(rows, words, answer);
         if refusal != DONE {
             return refusal;
         }
         let (a, b, last) = (self.a as usize, self.b as usize, rows.len());
-        let new = record_after(self.config, word_before(words, a), &self.trace[4 * a..]);
+        let new = record_after(self.config, word_before(words, a), &self.trace[FRAME_WORDS * a..]);
         // Before a no step is taken: the word is the kept one.
         let same = |e: &usize| *e == a || *e == last || new.words[e - 1 - a] == words[e - 1];
         let e = (b..=last).find(same).unwrap_or(last);
@@ -761,8 +849,7 @@ impl Edit<'_> {
         let mut new = Record { rows: Vec::new(), words: Vec::new() };
         let (mut e, mut word) = (a, word_before(words, a));
         while e < b || (e != last && word != word_before(words, e)) {
-            let frame = [0, 1, 2, 3].map(|i| self.trace[4 * e + i]);
-            let (row, next) = one_step(self.config, word, frame);
+            let (row, next) = one_step(self.config, word, frame_at(self.trace, e));
             new.rows.push(row);
             new.words.push(next);
             word = next;
@@ -801,7 +888,7 @@ pub fn count(rows: &[u32], mark: u32) -> u32 {
 }
 
 /// "Totals: for each of the five marks, the rows with that bit set, over up to 65,536 rows (more is refusal 5); other bits are
-/// ignored"
+/// ignored" By §8 there are six marks.
 pub fn totals(rows: &[u32], counts: &mut [u32]) -> u32 {
     if counts.len() != MARKS.len() || rows.len() > MOST_CYCLES {
         return 5;
@@ -815,7 +902,7 @@ pub fn totals(rows: &[u32], counts: &mut [u32]) -> u32 {
 /// checkers demand 2 speaks of starts and checks through the first cycle with mark 1 or 2", so no later cycle has an entry.
 pub fn entries(config: Config, trace: &[u32]) -> Vec<[u32; 3]> {
     let history = History::new(config, trace);
-    let end = history.stop().map_or(trace.len() / 4, |stop| stop + 1);
+    let end = history.stop().map_or(trace.len() / FRAME_WORDS, |stop| stop + 1);
     let mut entries = Vec::new();
     for t in 0..end {
         let verdict = history.verdict(t);
@@ -876,12 +963,12 @@ pub fn first_failure(checkers: u64, cycles: u64, rows: &[u32]) -> u64 {
 }
 
 /// "Every word and row becomes what that checker's one step gives." "A bench tests 9 and 5, then checkers in order, and names
-/// the first bad one (0 for 9 and 5)."
+/// the first bad one (0 for 9 and 5)." §8: "a bench's 8K".
 pub fn bench(table: &[Config], frames: &[u32], words: &mut [u64], rows: &mut [u32]) -> u32 {
     if table.len() > MOST_CHECKERS {
         return 256 * 9;
     }
-    if frames.len() != 4 * table.len() || words.len() != table.len() || rows.len() != table.len() {
+    if frames.len() != FRAME_WORDS * table.len() || words.len() != table.len() || rows.len() != table.len() {
         return 256 * 5;
     }
     for (k, config) in table.iter().enumerate() {
@@ -891,8 +978,7 @@ pub fn bench(table: &[Config], frames: &[u32], words: &mut [u64], rows: &mut [u3
         }
     }
     for (k, config) in table.iter().enumerate() {
-        let frame = [0, 1, 2, 3].map(|i| frames[4 * k + i]);
-        (rows[k], words[k]) = one_step(*config, words[k], frame);
+        (rows[k], words[k]) = one_step(*config, words[k], frame_at(frames, k));
     }
     0
 }

@@ -4,7 +4,8 @@
 use crate::cases::{compare_unaltered, same, same_entries};
 use crate::generate::{self, wire, UNUSED};
 use crate::host;
-use crate::rules::{self, Config, Edit, Range, Record, LONGEST_WINDOW, STOPPED};
+use crate::rules::{self, Config, Edit, Frame, Range, Record, ANSWERS, FRAME_WORDS, LONGEST_WINDOW, STOPPED};
+use crate::unknown;
 
 type Outcome = Result<(), String>;
 
@@ -16,9 +17,9 @@ fn compare_open_count(config: Config, word: u64) -> Outcome {
 /// Refusal and named cycle of a record with these words. With a = b in the middle nothing else is done, and the frames, which
 /// are all in reset, are not looked at.
 fn compare_kept(config: Config, words: &[u64]) -> Outcome {
-    let (trace, rows, at) = (vec![0; 4 * words.len()], vec![77; words.len()], words.len() as u64 / 2);
+    let (trace, rows, at) = (vec![0; FRAME_WORDS * words.len()], vec![77; words.len()], words.len() as u64 / 2);
     let edit = Edit { config, trace: &trace, a: at, b: at };
-    let refusal = edit.refusal(&rows, words, &[99; 6]);
+    let refusal = edit.refusal(&rows, words, &[99; ANSWERS]);
     compare_unaltered(&edit, &rows, words, refusal).map_err(|d| format!("{config:?}, kept words {words:x?}: {d}"))
 }
 
@@ -147,19 +148,47 @@ fn small_windows() -> Vec<Config> {
     configs
 }
 
-/// Every frame that a checker can tell from others, and one with reset_n 0. Kinds 7 and 8 take no notice of the ports where
-/// enable is 0, nor of enable where reset_n is 0, but a wrong check would: so these are varied too.
-fn all_frames(config: Config) -> Vec<rules::Frame> {
-    let values = |range: Range, used: bool| if used { 0..1 << range.width() } else { 0..1 };
-    let resets: &[u32] = if config.is_after_trigger() { &[1, 3] } else { &[1] };
-    let mut frames = vec![[!1, u32::MAX, u32::MAX, u32::MAX]];
-    frames.extend(config.is_after_trigger().then_some([0; 4]));
-    for p in values(config.p, true) {
-        for q in values(config.q, config.kind > 2) {
-            for r in values(config.r, config.kind == 6) {
-                frames.extend(resets.iter().map(|&reset| [reset, config.p.wires(p), config.q.wires(q), config.r.wires(r)]));
+/// What a bit of a frame can be.
+#[derive(Clone, Copy, PartialEq)]
+enum Bits {
+    /// 0 or 1.
+    Known,
+    /// 0, 1, or unknown with a value bit 1 under it: that one is told from a 0 where a start or a trigger is read.
+    Three,
+    /// 0, 1, or unknown with either value bit under it.
+    Four,
+}
+
+impl Bits {
+    /// Words of this range with their unknown bits.
+    fn words(self, range: Range) -> Vec<(u32, u32)> {
+        let all = 1 << range.width();
+        let unknown = if self == Bits::Known { 0..1 } else { 0..all };
+        let pairs = unknown.flat_map(|unknown| (0..all).map(move |value| (value, unknown)));
+        let taken = |(value, unknown): &(u32, u32)| self != Bits::Three || value & unknown == *unknown;
+        pairs.filter(taken).map(|(value, unknown)| (range.wires(value), range.wires(unknown))).collect()
+    }
+}
+
+/// Every frame of such bits that a checker can tell from others, and one with reset_n 0. Kinds 7 and 8 take no notice of the
+/// ports where enable is 0, nor of enable where reset_n is 0, but a wrong check would: so these are varied too. With unknown
+/// bits, there is one with an unknown reset_n as well, and all wires that are not read are unknown.
+fn all_frames(config: Config, bits: Bits) -> Vec<Frame> {
+    let words = |range: Range, used: bool| if used { bits.words(range) } else { vec![(0, 0)] };
+    let (enable, q, r) = (words(wire(1), config.is_after_trigger()), words(config.q, config.kind > 2), config.kind == 6);
+    let mut frames = vec![rules::known([!1, u32::MAX, u32::MAX, u32::MAX])];
+    frames.extend(config.is_after_trigger().then_some([0; FRAME_WORDS]));
+    frames.extend((bits != Bits::Known).then_some([u32::MAX, u32::MAX, u32::MAX, u32::MAX, 1, 0, 0, 0]));
+    for (p, p_x) in words(config.p, true) {
+        for &(q, q_x) in &q {
+            for (r, r_x) in words(config.r, r) {
+                frames.extend(enable.iter().map(|&(e, e_x)| [1 | e, p, q, r, e_x, p_x, q_x, r_x]));
             }
         }
+    }
+    if bits != Bits::Known {
+        let read = unknown::read_wires(config);
+        frames.iter_mut().for_each(|frame| (0..4).for_each(|i| frame[i + rules::TO_UNKNOWN] |= !read[i]));
     }
     frames
 }
@@ -235,7 +264,7 @@ fn longest_windows() -> Vec<Config> {
 
 /// Every frame from every word; and whether the word is possible.
 fn steps(config: Config) -> Result<u64, String> {
-    steps_from(config, words_to_try(config))
+    Ok(steps_from(config, words_to_try(config), Bits::Known)? + steps_from(config, words_to_try(config), Bits::Four)?)
 }
 
 /// The same for a longest window: from the words with the most cycles left, the fewest, and 65,536; and from 2^63.
@@ -244,15 +273,15 @@ fn longest_steps(config: Config) -> Result<u64, String> {
     let lefts = [0, 1, 2, longest - 1, longest, longest + 1];
     let held = lefts.into_iter().flat_map(|left| [0, 1].map(|reference| rules::with_reference(left, reference)));
     let words = lefts.into_iter().chain(held.filter(|_| config.is_after_trigger())).chain([STOPPED]).collect();
-    steps_from(config, words)
+    steps_from(config, words, Bits::Three)
 }
 
-fn steps_from(config: Config, words: Vec<u64>) -> Result<u64, String> {
+fn steps_from(config: Config, words: Vec<u64>, bits: Bits) -> Result<u64, String> {
     let mut compared = 0;
     for &word in &words {
         compare_word(config, word)?;
     }
-    for frame in all_frames(config) {
+    for frame in all_frames(config, bits) {
         for &word in &words {
             let (mut bytes, mut expected) = (word.to_le_bytes(), word.to_le_bytes());
             let context = |d| format!("step, {config:?}, frame {frame:x?}, word {word:#x}: {d}");
@@ -267,15 +296,15 @@ fn steps_from(config: Config, words: Vec<u64>) -> Result<u64, String> {
 
 /// The frames that traces are made of: of those of kinds 7 and 8 with enable 0, only the ones with a trigger. The others are
 /// left to the single steps, so that the traces can be longer.
-fn trace_frames(config: Config) -> Vec<rules::Frame> {
-    let mut frames = all_frames(config);
+fn trace_frames(config: Config, bits: Bits) -> Vec<Frame> {
+    let mut frames = all_frames(config, bits);
     frames.retain(|frame| !config.is_after_trigger() || frame[0] & 2 != 0 || frame[2] != 0);
     frames
 }
 
 /// Every trace of so many cycles that there are at most `most` of them.
-fn all_traces(config: Config, most: usize) -> impl Iterator<Item = Vec<u32>> {
-    let frames = trace_frames(config);
+fn all_traces(config: Config, bits: Bits, most: usize) -> impl Iterator<Item = Vec<u32>> {
+    let frames = trace_frames(config, bits);
     let cycles = (1..).take_while(|&cycles| frames.len().pow(cycles) <= most).last().unwrap_or(1);
     (0..frames.len().pow(cycles)).map(move |number| {
         let frame_of = |t: u32| frames[number / frames.len().pow(t) % frames.len()];
@@ -285,9 +314,11 @@ fn all_traces(config: Config, most: usize) -> impl Iterator<Item = Vec<u32>> {
 
 fn traces(config: Config) -> Result<u64, String> {
     let mut compared = 0;
-    // Enough for 4 cycles of 4 events, for 6 cycles of start and test, and for 5 cycles of a window on one wire.
+    // Enough for 4 cycles of 4 events, for 6 cycles of start and test, and for 5 cycles of a window on one wire; and with
+    // unknown bits for 3 cycles of 3 events, for 4 cycles of start and test, and for 3 cycles of a window on one wire.
     let most = if config.is_time() { 20_000 } else { 100_000 };
-    for trace in all_traces(config, most) {
+    let known = all_traces(config, Bits::Known, most);
+    for trace in known.chain(all_traces(config, Bits::Three, 25_000)) {
         compare_trace(config, &trace).map_err(|d| format!("{config:?}, trace {trace:x?}: {d}"))?;
         compared += 1;
     }
@@ -296,12 +327,19 @@ fn traces(config: Config) -> Result<u64, String> {
 
 /// Every edit of one frame in every trace of fewer cycles, from its true record.
 fn rechecks(config: Config) -> Result<u64, String> {
-    let mut compared = 0;
-    for old in all_traces(config, 1_000) {
+    // With unknown bits there are too many frames for two wires of each port.
+    let with_unknown = if trace_frames(config, Bits::Three).len() > 100 { 0 } else { rechecks_of(config, Bits::Three)? };
+    Ok(rechecks_of(config, Bits::Known)? + with_unknown)
+}
+
+fn rechecks_of(config: Config, bits: Bits) -> Result<u64, String> {
+    let (frames, mut compared) = (trace_frames(config, bits), 0);
+    for old in all_traces(config, bits, 1_000) {
         let kept = rules::true_record(config, &old);
-        for (t, frame) in (0..old.len() / 4).flat_map(|t| trace_frames(config).into_iter().map(move |frame| (t, frame))) {
+        let cycles = old.len() / FRAME_WORDS;
+        for (t, frame) in (0..cycles).flat_map(|t| frames.iter().map(move |frame| (t, frame))) {
             let mut trace = old.clone();
-            trace[4 * t..4 * t + 4].copy_from_slice(&frame);
+            trace[FRAME_WORDS * t..FRAME_WORDS * (t + 1)].copy_from_slice(frame);
             let edit = Edit { config, trace: &trace, a: t as u64, b: t as u64 + 1 };
             compare_recheck(&edit, &kept).map_err(|d| format!("{config:?}, {old:x?} made {trace:x?} in cycle {t}: {d}"))?;
             compared += 1;
@@ -313,7 +351,7 @@ fn rechecks(config: Config) -> Result<u64, String> {
 /// Every choice of impossible words in the true record of three cycles, and of none, with every a and b up to 4: also those
 /// of refusal 6, which comes first.
 fn spoiled_records(config: Config) -> Result<u64, String> {
-    let frames = trace_frames(config);
+    let frames = trace_frames(config, Bits::Known);
     let trace = [frames[1], frames[frames.len() / 2], frames[frames.len() - 1]].concat();
     let Record { rows, words } = rules::true_record(config, &trace);
     let impossible = generate::limit_words_that(config, false);
@@ -364,8 +402,8 @@ fn spoiled_again(config: Config, words: &[u64], first: usize, word: u64) -> Resu
 
 /// From a true record, or a spoiled one.
 fn compare_recheck(edit: &Edit, kept: &Record) -> Outcome {
-    let (mut rows, mut words, mut answer) = (kept.rows.clone(), kept.words.clone(), [99; 6]);
-    let (mut due_rows, mut due_words, mut due) = (kept.rows.clone(), kept.words.clone(), [99; 6]);
+    let (mut rows, mut words, mut answer) = (kept.rows.clone(), kept.words.clone(), [99; ANSWERS]);
+    let (mut due_rows, mut due_words, mut due) = (kept.rows.clone(), kept.words.clone(), [99; ANSWERS]);
     let refusal = edit.recheck_true(&mut due_rows, &mut due_words, &mut due);
     same("answer of recheck", host::recheck(edit, &mut rows, &mut words, &mut answer)?, refusal)?;
     same_entries("e and changes", &answer, &due)?;
@@ -375,7 +413,7 @@ fn compare_recheck(edit: &Edit, kept: &Record) -> Outcome {
 
 /// Full check and failure list of one trace.
 fn compare_trace(config: Config, trace: &[u32]) -> Outcome {
-    let cycles = trace.len() / 4;
+    let cycles = trace.len() / FRAME_WORDS;
     let (mut rows, mut words) = (vec![77; cycles], vec![77; cycles]);
     let record = rules::true_record(config, trace);
     same("answer of check", host::check(config, trace, &mut rows, &mut words)?, 0)?;

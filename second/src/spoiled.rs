@@ -87,7 +87,7 @@ impl Word {
 }
 
 /// Impossible words that are named.
-static NAMED: [Situation<Word>; 18] = [
+static NAMED: [Situation<Word>; 17] = [
     of(SEQUENCES, "2^(n-1) named", |w| w.word == 1 << (w.n() - 1)),
     of(&[2], "two bits below bit n-1 named", |w| w.word.count_ones() == 2 && w.word < 1 << (w.n() - 1)),
     of(COUNTS, "n+1 named", |w| w.word == w.n() + 1),
@@ -99,8 +99,7 @@ static NAMED: [Situation<Word>; 18] = [
         w.reference_fits() && rules::cycles_left_in(w.word) == w.n() - w.min() + 1
     }),
     of(&[8], "reference 2^width named", |w| w.left_fits() && rules::reference_in(w.word) == Some(w.wide())),
-    of(&[8], "cycles left without a reference named, min 0", |w| w.min() == 0 && (1..=w.n()).contains(&w.word)),
-    of(&[8], "max+1 cycles left without a reference named", |w| w.min() > 0 && w.word == w.n() + 1),
+    of(&[8], "max+1 cycles left without a reference named", |w| w.word == w.n() + 1),
     of(&[7, 8], "2^48 named", |w| w.word == 1 << 48),
     of(&[7, 8], "2^48-1 named", |w| w.word == (1 << 48) - 1),
     of(&[7, 8], "2^48+1 named", |w| w.word == (1 << 48) + 1),
@@ -111,7 +110,7 @@ static NAMED: [Situation<Word>; 18] = [
 ];
 
 /// Possible words of records that are not refused.
-static ACCEPTED: [Situation<Word>; 9] = [
+static ACCEPTED: [Situation<Word>; 10] = [
     of(&[0, 1], "2^(n-1)-1 kept", |w| w.word == (1 << (w.n() - 1)) - 1),
     of(&[2], "2^(n-2) kept", |w| w.word == 1 << (w.n() - 2)),
     of(COUNTS, "n kept", |w| w.word == w.n()),
@@ -119,6 +118,7 @@ static ACCEPTED: [Situation<Word>; 9] = [
     of(&[6], "2^32 + 2^width-1 kept", |w| w.word == (1 << 32) + w.wide() - 1),
     of(&[8], "greatest reference with max-min cycles left kept", |w| w.holds(w.wide() - 1, w.n() - w.min())),
     of(&[8], "max cycles left without a reference kept", |w| w.min() > 0 && w.word == w.n()),
+    of(&[8], "max cycles left without a reference kept, min 0", |w| w.min() == 0 && w.n() > 0 && w.word == w.n()),
     of(&[8], "2^48+1 kept", |w| w.holds(0, 1)),
     of(ALL, "2^63 kept, severity 1", |w| w.fatal(STOPPED)),
 ];

@@ -1,6 +1,6 @@
 //! What the run has covered: how many cases each call, kind, mark, refusal and situation had. A run that missed one fails.
 
-use crate::{fatal, spoiled, windows};
+use crate::{fatal, spoiled, unknown, windows};
 use std::collections::BTreeMap;
 use std::ops::RangeInclusive;
 
@@ -42,12 +42,12 @@ impl Call {
     /// The marks that the rows (or entries) of a call can have for a kind.
     fn marks(self, kind: u8) -> Vec<u32> {
         let of_kind: &[u32] = match kind {
-            3 => &[1, 4, 8],
-            4 => &[1, 4, 8, 16],
-            5 => &[1, 2, 4, 8],
-            7 | 8 => &[1, 4, 8],
-            NO_KIND => &[1, 2, 4, 8, 16],
-            _ => &[1, 4],
+            3 => &[1, 4, 8, 32],
+            4 => &[1, 4, 8, 16, 32],
+            5 => &[1, 2, 4, 8, 32],
+            7 | 8 => &[1, 4, 8, 32],
+            NO_KIND => &[1, 2, 4, 8, 16, 32],
+            _ => &[1, 4, 32],
         };
         match self {
             OpenCount => Vec::new(),
@@ -63,13 +63,14 @@ const KINDS: RangeInclusive<u8> = 0..=8;
 pub const NO_KIND: u8 = 9;
 
 /// The situations that every run has to meet, besides calls, kinds, marks and refusals.
-const SITUATIONS: [&str; 85] = [
+const SITUATIONS: [&str; 91] = [
     "check of 0 cycles",
     "check of 1 cycle",
     "check of 65,536 cycles",
     "check refused 65,537 cycles",
     "trace of 65,536 cycles and one word more",
-    "trace of no multiple of 4 words",
+    "trace of no multiple of 8 words",
+    "trace of an odd multiple of 4 words",
     "window restarted, row 20",
     "window restarted in its last cycle, n above 1",
     "window restarted twice running, n = 1",
@@ -97,6 +98,8 @@ const SITUATIONS: [&str; 85] = [
     "totals of 65,536 rows",
     "totals refused 65,537 rows",
     "first failure, none",
+    "first failure, none, rows with 32",
+    "first failure, after a row with 32",
     "first failure, in the last row only",
     "first failure, 64 checkers of 65,536 cycles",
     "first failure refused 65,537 cycles",
@@ -134,8 +137,9 @@ const SITUATIONS: [&str; 85] = [
     "value word, max left",
     "value word refused, max+1 left",
     "stability word without a reference, max left",
-    "stability word without a reference refused, min 0",
+    "stability word without a reference, max left, min 0",
     "stability word without a reference refused, max+1 left",
+    "stability word without a reference refused, max+1 left, min 0",
     "stability word, max-min left",
     "stability word, greatest reference of 32 wires",
     "stability word refused, 0 left",
@@ -145,9 +149,11 @@ const SITUATIONS: [&str; 85] = [
     "step, value not tested, enable 0",
     "step, stability, reference taken",
     "step, stability, compared and passed",
+    "step, stability, reference taken after the trigger, min 0",
     "recheck, true record, e above b + max, kinds 7 and 8",
     "recheck goes on with a reference",
     "recheck goes on before the reference",
+    "recheck goes on before the reference, min 0",
     "failures, start in its own cycle",
 ];
 
@@ -218,7 +224,8 @@ impl Tally {
         *self.situations.entry(name).or_default() += u64::from(met);
     }
 
-    /// A situation of a window, of a fatal checker or of a kept record; each is counted for every kind that has it.
+    /// A situation of a window, of a fatal checker, of a kept record or of unknown bits; each is counted for every kind that
+    /// has it.
     pub fn of_kind(&mut self, kind: u8, name: &'static str, met: bool) {
         *self.of_kinds.entry((kind, name)).or_default() += u64::from(met);
     }
@@ -284,7 +291,8 @@ impl Tally {
         }
         let not_met = SITUATIONS.iter().filter(|name| self.situations.get(*name).copied().unwrap_or(0) == 0);
         missed.extend(not_met.map(|name| name.to_string()));
-        let of_kinds = windows::all_situations().chain(fatal::all_situations()).chain(spoiled::all_situations());
+        let of_windows = windows::all_situations().chain(fatal::all_situations());
+        let of_kinds = of_windows.chain(spoiled::all_situations()).chain(unknown::all_situations());
         for (kind, name, least) in of_kinds {
             if self.of_kinds.get(&(kind, name)).copied().unwrap_or(0) < least {
                 missed.push(format!("kind {kind}: {name}"));

@@ -1,12 +1,14 @@
 //! The whiteboard table of document 01 and the examples under it. The numbers are the document's, but for the rows of case
 //! H, which §2 of document 02 changes: "Case H becomes 4 0 20 0 20 0, same words." A second table has cases of kinds 7 and 8,
 //! worked by hand from the sentences of §4, a third has the longest windows, from those of §5, a fourth fatal checkers,
-//! from those of §7, and a fifth records of other checkers, from those of §6. The library and the rules are both held against
-//! them.
+//! from those of §7, a fifth records of other checkers, from those of §6, and a sixth, in a file of its own, unknown bits, from
+//! those of §8. The library and the rules are both held against them.
+
+mod unknown_bits;
 
 use crate::generate::{wire, UNUSED};
 use crate::host;
-use crate::rules::{self, Config, Edit, Frame, Range, Record, Refusal, DONE};
+use crate::rules::{self, known, Config, Edit, Frame, Range, Record, Refusal, ANSWERS, DONE, FRAME_WORDS, TO_UNKNOWN};
 use std::fmt::Debug;
 
 type Outcome = Result<(), String>;
@@ -72,12 +74,12 @@ fn fatal(config: Config) -> Config {
 /// Frames with reset_n 1; a port without samples is 0.
 fn frames(p: &[u32], q: &[u32], r: &[u32]) -> Vec<u32> {
     let sample = |port: &[u32], t: usize| port.get(t).copied().unwrap_or(0);
-    (0..p.len()).flat_map(|t| [1, p[t], sample(q, t), sample(r, t)]).collect()
+    (0..p.len()).flat_map(|t| known([1, p[t], sample(q, t), sample(r, t)])).collect()
 }
 
 /// Frames with reset_n 1, and enable, trigger and tracked value as given.
 fn window_frames([enable, trigger, tracked]: [&[u32]; 3]) -> Vec<u32> {
-    (0..enable.len()).flat_map(|t| [1 + 2 * enable[t], tracked[t], trigger[t], 0]).collect()
+    (0..enable.len()).flat_map(|t| known([1 + 2 * enable[t], tracked[t], trigger[t], 0])).collect()
 }
 
 const A: [u32; 6] = [8, 4, 10, 5, 2, 1];
@@ -158,7 +160,7 @@ const R_WORDS: [u64; 6] = [281_474_976_907_266, 281_474_976_907_265, 0, 281_474_
 
 /// A full check by the library, by the rules, and by single steps of the library.
 fn check_line(line: &Line) -> Outcome {
-    let cycles = line.trace.len() / 4;
+    let cycles = line.trace.len() / FRAME_WORDS;
     let (mut rows, mut words) = (vec![77; cycles], vec![77; cycles]);
     is("answer", host::check(line.config, &line.trace, &mut rows, &mut words)?, 0)?;
     are("rows of the library", &rows, &line.rows)?;
@@ -167,8 +169,8 @@ fn check_line(line: &Line) -> Outcome {
     are("rows of the rules", &record.rows, &line.rows)?;
     are("words of the rules", &record.words, &line.words)?;
     let mut bytes = [0; 8];
-    for (t, frame) in line.trace.chunks_exact(4).enumerate() {
-        let frame = [frame[0], frame[1], frame[2], frame[3]];
+    for t in 0..cycles {
+        let frame = rules::frame_at(&line.trace, t);
         is("row of a step", host::step(line.config, frame, &mut bytes)?, line.rows[t])?;
         is("word of a step", u64::from_le_bytes(bytes), line.words[t])?;
     }
@@ -192,7 +194,7 @@ struct Due<'a> {
     refusal: Refusal,
     rows: &'a [u32],
     words: &'a [u64],
-    answer: [i32; 6],
+    answer: [i32; ANSWERS],
 }
 
 fn check_kept(edit: &Edit, kept: &Record, all: [&str; 3], due: Due) -> Outcome {
@@ -212,14 +214,24 @@ fn check_kept(edit: &Edit, kept: &Record, all: [&str; 3], due: Due) -> Outcome {
     Ok(())
 }
 
-/// A recheck of the true record of `old` after the edit from a to b.
+/// e and five changes; where no wire is unknown, the sixth is 0: "A trace without unknowns has the rows it had before."
+fn without_32([e, failed, illegal, opened, closed, restarted]: [i32; 6]) -> [i32; ANSWERS] {
+    [e, failed, illegal, opened, closed, restarted, 0]
+}
+
+/// A recheck of the true record of `old` after the edit from a to b, without unknown bits.
 fn check_recheck(edit: &Edit, old: &[u32], rows: &[u32], words: &[u64], answer: [i32; 6]) -> Outcome {
+    check_changes(edit, old, rows, words, without_32(answer))
+}
+
+/// The same with all six changes.
+fn check_changes(edit: &Edit, old: &[u32], rows: &[u32], words: &[u64], answer: [i32; ANSWERS]) -> Outcome {
     let kept = rules::true_record(edit.config, old);
     check_kept(edit, &kept, OF_TRUE, Due { refusal: DONE, rows, words, answer })
 }
 
 /// What stands in the slice of answers before a call.
-const NO_ANSWER: [i32; 6] = [99; 6];
+const NO_ANSWER: [i32; ANSWERS] = [99; ANSWERS];
 
 /// A recheck that is refused: "A refusal writes nothing".
 fn check_refused(edit: &Edit, kept: &Record, number: u32, cycle: u32) -> Outcome {
@@ -269,7 +281,7 @@ fn limits() -> Outcome {
     let times = [(time(3, 1), 0), (time(3, 1024), 0), (time(3, 0), 2), (time(3, 1025), 0)];
     check_limits(limits.into_iter().chain(times))?;
     for (cycles, due) in [(65_536, 0), (65_537, 4)] {
-        let trace = vec![1; 4 * cycles];
+        let trace = vec![1; FRAME_WORDS * cycles];
         let (mut rows, mut words) = (vec![0; cycles], vec![0; cycles]);
         is("N by the library", host::check(at(2), &trace, &mut rows, &mut words)?, due)?;
         is("N by the rules", rules::check(at(2), &trace, &mut rows, &mut words), due)?;
@@ -343,7 +355,10 @@ fn window_words() -> Outcome {
         (stability(1, 3), 0, 0),
         (stability(1, 3), 3, 1),
         (stability(1, 3), 4, 1792),
-        (stability(0, 3), 3, 1792),
+        (stability(0, 3), 3, 1),
+        (stability(0, 3), 1, 1),
+        (stability(0, 3), 4, 1792),
+        (stability(0, 0), 1, 1792),
         (stability(0, 3), HELD + 3, 1),
         (stability(1, 3), HELD + (7 << 16) + 2, 1),
         (stability(1, 3), HELD + (7 << 16) + 3, 1792),
@@ -355,25 +370,27 @@ fn window_words() -> Outcome {
     check_counts(counts)
 }
 
-/// "exact at zero and at plus or minus 65,536": rows that all have every bit become 0, and rows that are 0 become 4.
+/// "exact at zero and at plus or minus 65,536": rows that all have every bit become 0, and rows that are 0 become 4, or 36
+/// where the next state is unknown.
 fn greatest_changes() -> Outcome {
     let cycles = rules::MOST_CYCLES;
     let most = cycles as i32;
-    let quiet = Edit { config: sequence(0, 2, 1, 0), trace: &vec![1, 0, 0, 0].repeat(cycles), a: 0, b: cycles as u64 };
-    let seen = Edit { config: transition(), trace: &vec![1, 0, 0, 0].repeat(cycles), a: 0, b: cycles as u64 };
-    let fewer = (&quiet, u32::MAX, 0, [most, -most, -most, -most, -most, -most]);
-    let more = (&seen, 0, 4, [most, 0, 0, most, 0, 0]);
-    for (edit, old, new, due) in [fewer, more] {
+    let (zeros, unknown) = (known([1, 0, 0, 0]).repeat(cycles), [1, 0, 0, 0, 0, 0, 0, 4].repeat(cycles));
+    let edit = |config, trace| Edit { config, trace, a: 0, b: cycles as u64 };
+    let fewer = (edit(sequence(0, 2, 1, 0), &zeros), u32::MAX, 0, [most, -most, -most, -most, -most, -most, -most]);
+    let more = (edit(transition(), &zeros), 0, 4, [most, 0, 0, most, 0, 0, 0]);
+    let more_unknown = (edit(transition(), &unknown), 0, 36, [most, 0, 0, most, 0, 0, most]);
+    for (edit, old, new, due) in &[fewer, more, more_unknown] {
         for by_host in [true, false] {
-            let (mut rows, mut words, mut answer) = (vec![old; cycles], vec![0; cycles], [99; 6]);
+            let (mut rows, mut words, mut answer) = (vec![*old; cycles], vec![0; cycles], NO_ANSWER);
             let refusal = if by_host {
                 host::recheck(edit, &mut rows, &mut words, &mut answer)?
             } else {
                 edit.recheck_any(&mut rows, &mut words, &mut answer)
             };
             is("refusal and named cycle", refusal, DONE)?;
-            are("e and changes", &answer, &due)?;
-            are("rows", &rows, &vec![new; cycles])?;
+            are("e and changes", &answer, due)?;
+            are("rows", &rows, &vec![*new; cycles])?;
         }
     }
     Ok(())
@@ -383,7 +400,7 @@ fn greatest_changes() -> Outcome {
 fn long_frames(quiet: Frame, others: &[(usize, Frame)]) -> Vec<u32> {
     let mut trace = quiet.repeat(65_536);
     for (t, frame) in others {
-        trace[4 * t..4 * t + 4].copy_from_slice(frame);
+        trace[FRAME_WORDS * t..FRAME_WORDS * (t + 1)].copy_from_slice(frame);
     }
     trace
 }
@@ -410,10 +427,10 @@ fn held_countdown(reference: u64, first: usize) -> Vec<u64> {
 }
 
 /// Time: start 0 and test 1; a start with test 0; test 0 alone; a start with test 1.
-const QUIET: Frame = [1, 0, 1, 0];
-const START: Frame = [1, 1, 0, 0];
-const TEST_0: Frame = [1, 0, 0, 0];
-const START_TEST_1: Frame = [1, 1, 1, 0];
+const QUIET: Frame = known([1, 0, 1, 0]);
+const START: Frame = known([1, 1, 0, 0]);
+const TEST_0: Frame = known([1, 0, 0, 0]);
+const START_TEST_1: Frame = known([1, 1, 1, 0]);
 
 /// Windows of n 65,535 over 65,536 cycles, opened in cycle 0: the last cycle, 65,535, is s+n.
 ///
@@ -439,12 +456,12 @@ fn longest_time_lines() -> Vec<Line> {
 }
 
 /// Kinds 7 and 8: enable 1 and the tracked value 5 or 4, without a trigger.
-const FIVE: Frame = [3, 5, 0, 0];
-const FOUR: Frame = [3, 4, 0, 0];
+const FIVE: Frame = known([3, 5, 0, 0]);
+const FOUR: Frame = known([3, 4, 0, 0]);
 
 /// The same with a trigger, and the tracked value given.
 const fn trigger(tracked: u32) -> Frame {
-    [3, tracked, 1, 0]
+    known([3, tracked, 1, 0])
 }
 
 /// The same of kinds 7 and 8, with max 65,535.
@@ -460,7 +477,7 @@ fn longest_window_lines() -> Vec<Line> {
     let closed = long_rows(&[(0, 4), (65_535, 8)]);
     let wrong_last = long_frames(FIVE, &[(0, trigger(4)), (65_535, FOUR)]);
     let right_last = long_frames(FIVE, &[(0, trigger(4)), (65_535, trigger(5))]);
-    let disabled = long_frames([1, 5, 0, 0], &[(0, trigger(4)), (65_535, FIVE)]);
+    let disabled = long_frames(known([1, 5, 0, 0]), &[(0, trigger(4)), (65_535, FIVE)]);
     vec![
         line("V", value(1, 65_535, 5), wrong_last.clone(), &failed, &countdown()),
         line("W", value(1, 65_535, 5), right_last.clone(), &closed, &countdown()),
@@ -525,7 +542,7 @@ fn longest_time_rechecks() -> Outcome {
     let others = [(3, TEST_0), (7, START_TEST_1), (65_535, TEST_0)];
     let without = long_frames(QUIET, &others);
     let mut with = without.clone();
-    with[..4].copy_from_slice(&START);
+    with[..FRAME_WORDS].copy_from_slice(&START);
     let words: Vec<u64> = (0..65_536).map(|t| if t < 7 { 0 } else { 65_535 + 7 - t }).collect();
     check_recheck(&edit(5, &without), &with, &long_rows(&[(7, 4), (65_535, 1)]), &words, [65_536, -1, -1, 0, -1, 0])
 }
@@ -573,7 +590,8 @@ fn longest_words() -> Outcome {
         (stability(1, 65_535), 65_536, 1792),
         (stability(1, 65_535), HELD + 65_534, 1),
         (stability(1, 65_535), HELD + 65_535, 1792),
-        (stability(0, 65_535), 65_535, 1792),
+        (stability(0, 65_535), 65_535, 1),
+        (stability(0, 65_535), 65_536, 1792),
         (stability(0, 65_535), HELD + 65_535, 1),
         (stability(0, 65_535), HELD + (7 << 16) + 65_535, 1),
         (stability(0, 65_535), HELD + (8 << 16) + 65_535, 1792),
@@ -605,7 +623,7 @@ fn longest() -> Result<usize, String> {
 
 /// The frames with reset_n 0 in cycle t.
 fn with_reset(mut trace: Vec<u32>, t: usize) -> Vec<u32> {
-    trace[4 * t] &= !1;
+    trace[FRAME_WORDS * t] &= !1;
     trace
 }
 
@@ -842,7 +860,9 @@ fn fatal_steps() -> Outcome {
         steps.extend([(fatal(config), 0), (config, 1792)]);
     }
     let all = u32::MAX;
-    let frames = [[0, 0, 0, 0], [!1, all, all, all], [1, 0, 0, 0], [3, all, all, 0], [3, 8, 1, 1]];
+    let [in_reset, in_reset_too] = [[0, 0, 0, 0], [!1, all, all, all]].map(known);
+    let [quiet, full, mixed] = [[1, 0, 0, 0], [3, all, all, 0], [3, 8, 1, 1]].map(known);
+    let frames = [in_reset, in_reset_too, quiet, full, mixed, [all; 8], [3, 0, 0, 0, 0, all, all, all]];
     for ((config, due), frame) in steps.into_iter().flat_map(|step| frames.map(|frame| (step, frame))) {
         let (mut by_host, mut by_rules) = (S.to_le_bytes(), S.to_le_bytes());
         is(&format!("{config:?}, {frame:x?} by the library"), host::step(config, frame, &mut by_host)?, due)?;
@@ -894,10 +914,10 @@ fn fatal_checkers() -> Result<usize, String> {
 /// A: under kind 2 the 5 of cycle 2 is two attempts. With n 3 words are below 4, with n 2 below 2. A window of 4 cycles, or
 ///    of 3, never has 5 left, and a transition no word between 0 and 2^32.
 /// G: with n 2, the 3 of cycle 0 is one too many. Kind 2 takes it as two attempts.
-/// J: kind 8 with min 0 has no window without a reference; for a transition 1 is no word.
+/// J: with max 0 a window is never open; for a transition 1 is no word.
 /// K: the 4 of cycle 0 does not fit two wires. For a sequence and for a window all of 2^32 is too much.
-/// Q: with min 0 a window has a reference from its trigger on. With min 3 a reference comes with 1 cycle left, not with 2.
-///    With max 3 the 4 is one too many. Kind 7 has no references.
+/// Q: with min 3 a reference comes with 1 cycle left, not with 2, and with min 4 it comes with none left. With max 3 the 4 is one
+///    too many. Kind 7 has no references.
 /// R: the references 3 of cycle 0 and 5 of cycle 3 need two wires and three; with min 1 they come with 1 cycle left.
 /// E, fatal: 2^63 from cycle 2 on is not left by a checker that goes on, nor by kind 8 with min equal to max, which cannot
 ///    fail; the 1 and 3 before it are where max is 3, but not where it is 2. AG, fatal, is stopped in cycle 0.
@@ -915,13 +935,13 @@ fn others_records() -> Vec<(&'static str, Config, u32)> {
         ("G", time(3, 2), 0),
         ("G", fatal(time(4, 2)), 0),
         ("G", sequence(2, 3, 2, 0), 0),
-        ("J", stability(0, 3), 0),
+        ("J", stability(0, 0), 0),
         ("J", transition(), 0),
         ("K", two_wires, 0),
         ("K", fatal(two_wires), 0),
         ("K", sequence(1, 32, 31, 0), 0),
         ("K", time(4, 65_535), 0),
-        ("Q", stability(0, 4), 0),
+        ("Q", stability(4, 4), 2),
         ("Q", stability(3, 4), 2),
         ("Q", stability(1, 3), 0),
         ("Q", value(1, 4, 5), 2),
@@ -967,18 +987,27 @@ fn others_accepted() -> Outcome {
     // the word 3 that is kept there: e is 5. The rows of cycles 2 to 4 were 20, 0 and 20.
     let (trace, kept) = record_of("H")?;
     let edit = Edit { config: time(3, 3), trace: &trace, a: 2, b: 3 };
-    let (rows, words, answer) = (&[4, 0, 1, 8, 4, 0], &[3, 2, 1, 0, 3, 2], [5, 1, 0, -1, 1, -2]);
+    let (rows, words, answer) = (&[4, 0, 1, 8, 4, 0], &[3, 2, 1, 0, 3, 2], without_32([5, 1, 0, -1, 1, -2]));
     check_kept(&edit, &kept, OF_ANY, Due { refusal: DONE, rows, words, answer })?;
+
+    // Q for min 0, where a window without a reference is possible too: from cycle 0 on the reference is its 3, from which the 6
+    // of cycle 2 differs, and the 5 of cycle 4, which closes the window: there the word is 0, as is the one kept: e is 5.
+    let (trace, kept) = record_of("Q")?;
+    let edit = Edit { config: stability(0, 4), trace: &trace, a: 0, b: 1 };
+    let held = [4, 3, 2, 1].map(|left| 281_474_976_907_264 + left);
+    let (rows, words) = (&[4, 0, 1, 0, 9, 0], &[held[0], held[1], held[2], held[3], 0, 0]);
+    check_kept(&edit, &kept, OF_ANY, Due { refusal: DONE, rows, words, answer: without_32([5, 1, 0, 0, 0, 0]) })?;
 
     // E for the fatal checker, which stops in cycle 2, where the row is the same. Those of cycles 3 to 5 were 5.
     let (trace, kept) = record_of("E")?;
     let edit = Edit { config: fatal(sequence(1, 3, 2, 0)), trace: &trace, a: 2, b: 3 };
-    let (rows, words, answer) = (&[4, 4, 5, 0, 0, 0], &[1, 3, S, S, S, S], [6, -3, 0, -3, 0, 0]);
+    let (rows, words, answer) = (&[4, 4, 5, 0, 0, 0], &[1, 3, S, S, S, S], without_32([6, -3, 0, -3, 0, 0]));
     check_kept(&edit, &kept, OF_ANY, Due { refusal: DONE, rows, words, answer })
 }
 
 /// §6: "Order of tests stays", "Otherwise that number is 0": the record of A for kind 2 with each earlier refusal, and what
-/// would be refused later wrong too. 23 words are no whole number of frames, and 20 are one frame less than there are rows.
+/// would be refused later wrong too. 47 words are no whole number of frames, nor are 44, and 40 are one frame less than there
+/// are rows.
 fn spoiled_order() -> Outcome {
     let (trace, kept) = record_of("A")?;
     let right = sequence(2, 4, 3, 0);
@@ -989,7 +1018,8 @@ fn spoiled_order() -> Outcome {
     }
     let edit = |trace, a, b| Edit { config: right, trace, a, b };
     check_refused(&edit(&trace[1..], 5, 4), &kept, 4, 0)?;
-    check_refused(&edit(&trace[4..], 5, 4), &kept, 5, 0)?;
+    check_refused(&edit(&trace[4..], 5, 4), &kept, 4, 0)?;
+    check_refused(&edit(&trace[FRAME_WORDS..], 5, 4), &kept, 5, 0)?;
     for (a, b) in [(5, 4), (3, 7), (0, 7), (7, 7), (u64::MAX, 0), (3 + (1 << 32), 4 + (1 << 32))] {
         check_refused(&edit(&trace, a, b), &kept, 6, 0)?;
     }
@@ -1034,13 +1064,15 @@ pub fn compare() -> Result<String, String> {
     window_limits().map_err(|d| format!("limits of kinds 7 and 8: {d}"))?;
     window_words().map_err(|d| format!("words of kinds 7 and 8: {d}"))?;
     let (document, windows, longest, fatal) = (document.len(), windows.len(), longest()?, fatal_checkers()?);
-    let spoiled = spoiled_records()?;
+    let (spoiled, unknown) = (spoiled_records()?, unknown_bits::compare()?);
     Ok(format!(
         "whiteboard table: {document} cases and the examples under it, all as in the document\n\
          kinds 7 and 8: {windows} cases, a recheck, limits and words, all as worked by hand\n\
          longest windows: {longest} cases, lists, rechecks, limits and words, all as worked by hand\n\
          fatal checkers: {fatal} cases, lists, rechecks, a bench, limits, words and steps, all as worked by hand\n\
-         records of other checkers: {spoiled} refused, two rechecks, earlier refusals and a longest record, all as worked \
+         records of other checkers: {spoiled} refused, three rechecks, earlier refusals and a longest record, all as worked \
+         by hand\n\
+         unknown bits: {unknown} cases with their lists, rechecks, totals, first failures, lengths and steps, all as worked \
          by hand"
     ))
 }

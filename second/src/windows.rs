@@ -1,7 +1,7 @@
 //! The situations of kinds 7 and 8 (§4 of document 02) and of the longest windows (§5) that every run has to meet: those of
 //! a window, of an open word and of a configuration.
 
-use crate::rules::{self, Config, LONGEST_WINDOW};
+use crate::rules::{self, Config, Frame, FRAME_WORDS, LONGEST_WINDOW, TO_UNKNOWN};
 use crate::tally::Tally;
 
 /// A window of a checked trace: from its accepted trigger s to s+max, or to where a reset or the end of the trace cuts it.
@@ -68,8 +68,8 @@ pub const SITUATIONS: [Situation; 23] = [
     value("failed in its trigger cycle, max above 0", |w| w.rows[w.s] == 5),
     value("failed in its trigger cycle, max 0", |w| w.rows[w.s] == 13),
     stability("failed, reference of s", |w| w.min() == 0 && w.has_failed()),
-    stability("reference later than s+min", |w| w.enabled().next().is_some_and(|t| t > w.s + w.min())),
-    stability("closed without a reference", |w| w.is_closed() && w.enabled().next().is_none()),
+    stability("reference later than s+min", |w| w.sampled().next().is_some_and(|t| t > w.s + w.min())),
+    stability("closed without a reference", |w| w.is_closed() && w.sampled().next().is_none()),
     stability("reference with its 32nd bit 1", |w| w.due.is_some_and(|r| r >> 31 == 1)),
 ];
 
@@ -88,12 +88,23 @@ impl Window<'_> {
         self.config.n as usize
     }
 
+    fn frame(&self, t: usize) -> Frame {
+        rules::frame_at(self.trace, t)
+    }
+
     fn enable(&self, t: usize) -> bool {
-        self.trace[4 * t] & 2 != 0
+        rules::is_enabled(&self.frame(t))
+    }
+
+    /// None where a wire of it is unknown.
+    fn p(&self, t: usize) -> Option<u32> {
+        let (frame, range) = (self.frame(t), self.config.p);
+        (range.value(frame[1 + TO_UNKNOWN]) == 0).then(|| range.value(frame[1]))
     }
 
     fn q(&self, t: usize) -> bool {
-        self.config.q.value(self.trace[4 * t + 2]) == 1
+        let (frame, range) = (self.frame(t), self.config.q);
+        range.value(frame[2]) == 1 && range.value(frame[2 + TO_UNKNOWN]) == 0
     }
 
     fn trigger(&self, t: usize) -> bool {
@@ -101,7 +112,7 @@ impl Window<'_> {
     }
 
     fn trigger_is_disabled(&self, t: usize) -> bool {
-        t < self.rows.len() && self.trace[4 * t] & 3 == 1 && self.q(t)
+        t < self.rows.len() && rules::is_running(&self.frame(t)) && !self.enable(t) && self.q(t)
     }
 
     fn opens(&self, t: usize) -> bool {
@@ -124,9 +135,9 @@ impl Window<'_> {
         !self.is_closed() && self.end < self.rows.len()
     }
 
-    /// The cycles from s+min on where enable is 1.
-    fn enabled(&self) -> impl Iterator<Item = usize> + '_ {
-        (self.s + self.min()..self.end).filter(|&t| self.enable(t))
+    /// The cycles from s+min on where enable is 1 and P is known.
+    fn sampled(&self) -> impl Iterator<Item = usize> + '_ {
+        (self.s + self.min()..self.end).filter(|&t| self.enable(t) && self.p(t).is_some())
     }
 
     fn disabled(&self) -> impl Iterator<Item = usize> + '_ {
@@ -135,18 +146,18 @@ impl Window<'_> {
 
     /// The cycles that can fail: the stability check only takes its reference in the first.
     fn tested(&self) -> impl Iterator<Item = usize> + '_ {
-        self.enabled().skip(usize::from(self.config.kind == 8))
+        self.sampled().skip(usize::from(self.config.kind == 8))
     }
 
     fn find_due(&self) -> Option<u32> {
         if self.config.kind == 7 {
             return Some(self.config.value);
         }
-        self.enabled().next().map(|t| self.config.p.value(self.trace[4 * t + 1]))
+        self.sampled().next().and_then(|t| self.p(t))
     }
 
     fn is_wrong(&self, t: usize) -> bool {
-        self.due.is_some_and(|due| due != self.config.p.value(self.trace[4 * t + 1]))
+        self.due.is_some_and(|due| self.p(t).is_some_and(|p| p != due))
     }
 }
 
@@ -154,7 +165,7 @@ fn windows<'a>(config: Config, trace: &'a [u32], rows: &'a [u32]) -> Vec<Window<
     let mut windows = Vec::new();
     for s in (0..rows.len()).filter(|&s| rows[s] & 4 != 0) {
         let last = rows.len().min(s + config.n as usize + 1);
-        let end = (s + 1..last).find(|&t| trace[4 * t] & 1 == 0).unwrap_or(last);
+        let end = (s + 1..last).find(|&t| !rules::is_running(&trace[FRAME_WORDS * t..])).unwrap_or(last);
         let mut window = Window { config, trace, rows, s, end, due: None };
         window.due = window.find_due();
         windows.push(window);
@@ -197,8 +208,9 @@ pub fn tally_word(tally: &mut Tally, config: Config, word: u64) {
         }
         (8, None) => {
             tally.situation("stability word without a reference, max left", word == max && min > 0);
-            tally.situation("stability word without a reference refused, min 0", (1..=max).contains(&word) && min == 0);
+            tally.situation("stability word without a reference, max left, min 0", word == max && max > 0 && min == 0);
             tally.situation("stability word without a reference refused, max+1 left", word == max + 1 && min > 0);
+            tally.situation("stability word without a reference refused, max+1 left, min 0", word == max + 1 && min == 0);
         }
         (8, Some(r)) => {
             let (left, above) = (rules::cycles_left_in(word), 1 << config.p.width());

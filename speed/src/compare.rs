@@ -1,7 +1,7 @@
 //! Whether the proved library answers every call that is timed as ordinary Rust does.
 use crate::engine::{Answer, Engine, Plain, Record};
 use crate::inputs::{cut, false_record, Call, Input, BENCH, CYCLES, LIST};
-use crate::plain::{self, Config, FAILURE, ILLEGAL, MOST_PIPE, OPENED};
+use crate::plain::{self, Config, Frame, FAILURE, FRAME, ILLEGAL, MOST_PIPE, OPENED};
 use crate::proved::Library;
 use std::ops::Range;
 
@@ -27,16 +27,20 @@ pub fn compare(library: &Library, input: &Input) -> Result<(), String> {
 /// The record of the full check, on which both sides agree.
 fn compare_check(library: &Library, config: &Config, trace: &[u32]) -> Result<Record, String> {
     let [mut proved, mut plain] = [Record::new(CYCLES), Record::new(CYCLES)];
-    let answers = [library.full_check(config, trace, &mut proved), Plain.full_check(config, trace, &mut plain)];
+    let own = library.form().trace(trace);
+    let answers = [library.full_check(config, &own, &mut proved), Plain.full_check(config, trace, &mut plain)];
     equal(answers, [&proved, &plain])?;
     Ok(plain)
 }
 
 fn compare_bench(library: &Library, checkers: &[Config], trace: &[u32]) -> Result<(), String> {
     let [mut proved, mut plain] = [Record::new(BENCH), Record::new(BENCH)];
+    let own = library.form().trace(trace);
     for t in 0..CYCLES {
-        let frames = cut(trace, t, BENCH);
-        let answers = [library.bench_step(checkers, frames, &mut proved), Plain.bench_step(checkers, frames, &mut plain)];
+        let answers = [
+            library.bench_step(checkers, library.form().cut(&own, t, BENCH), &mut proved),
+            Plain.bench_step(checkers, cut(trace, t, BENCH), &mut plain),
+        ];
         equal(answers, [&proved, &plain]).map_err(|difference| format!("step {t}, {difference}"))?;
     }
     Ok(())
@@ -66,10 +70,11 @@ fn compare_recheck(
 ) -> Result<(), String> {
     let full = compare_check(library, config, trace)?;
     let kept = record.rows.clone();
-    let answer = library.recheck(config, trace, &mut record, edit);
+    let answer = library.recheck(config, &library.form().trace(trace), &mut record, edit);
     equal([answer.map(|_| ()), Ok(())], [&record, &full]).map_err(|difference| format!("recheck, {difference}"))?;
 
-    let mut expected = [CYCLES as i32, 0, 0, 0, 0, 0];
+    let mut expected = [0; 7];
+    expected[0] = CYCLES as i32;
     for (mark, change) in expected[1..].iter_mut().enumerate() {
         let count = |rows: &[u32]| rows.iter().filter(|row| *row >> mark & 1 != 0).count() as i32;
         *change = count(&full.rows) - count(&kept);
@@ -83,7 +88,8 @@ fn compare_recheck(
 fn compare_list(library: &Library, config: &Config, trace: &[u32]) -> Result<(), String> {
     let record = compare_check(library, config, trace)?;
     let mut list = vec![0; LIST];
-    let entries = library.failures(config, trace, &mut list).map_err(|refusal| format!("refused: {refusal}"))?;
+    let own = library.form().trace(trace);
+    let entries = library.failures(config, &own, &mut list).map_err(|refusal| format!("refused: {refusal}"))?;
     let expected = failures(config, trace, &record);
     if list[..3 * entries] != *expected.as_flattened() {
         return Err(format!("the list of {entries} entries is not the one of {} that is due", expected.len()));
@@ -95,7 +101,8 @@ fn compare_list(library: &Library, config: &Config, trace: &[u32]) -> Result<(),
 fn failures(config: &Config, trace: &[u32], record: &Record) -> Vec<[u32; 3]> {
     let mut list = Vec::new();
     let (mut opened, mut word) = (0, 0);
-    for (t, &row) in record.rows.iter().enumerate() {
+    let (frames, _) = trace.as_chunks::<FRAME>();
+    for (t, (&row, frame)) in record.rows.iter().zip(frames).enumerate() {
         let cycle = t as u32;
         // Ahead of the entries: a window of kind 7 can fail in the cycle that opens it; kinds 3 to 5 have no entry there.
         if row & OPENED != 0 {
@@ -103,7 +110,7 @@ fn failures(config: &Config, trace: &[u32], record: &Record) -> Vec<[u32; 3]> {
         }
         if row & FAILURE != 0 {
             let starts = match config.kind {
-                0..=2 => failed_attempts(config, cycle, word, trace[4 * t + 1]),
+                0..=2 => failed_attempts(config, cycle, word, frame),
                 6 => vec![cycle - 1],
                 _ => vec![opened],
             };
@@ -117,10 +124,12 @@ fn failures(config: &Config, trace: &[u32], record: &Record) -> Vec<[u32; 3]> {
     list
 }
 
-/// Kinds 0 to 2: the starts of the attempts open before the cycle that miss their event in it, the oldest first.
-fn failed_attempts(config: &Config, cycle: u32, word: u64, wires: u32) -> Vec<u32> {
+/// Kinds 0 to 2: the starts of the attempts open before the cycle that miss their event in it, the oldest first. An event
+/// that is unknown is not missed.
+fn failed_attempts(config: &Config, cycle: u32, word: u64, [_, p, _, _, _, p_unknown, _, _]: &Frame) -> Vec<u32> {
     let last = config.n - 1;
     let first_tested = if config.kind == MOST_PIPE { last } else { 1 };
+    let wires = p | p_unknown;
     (first_tested..=last)
         .rev()
         .filter(|age| word >> (age - 1) & 1 != 0 && wires >> wire(config.p, last - age) & 1 == 0)

@@ -1,4 +1,5 @@
 //! The calls that both sides have, and what they write.
+use crate::form::Form;
 use crate::plain::{self, Config};
 
 /// Done, or the number of a refusal.
@@ -6,6 +7,11 @@ pub type Answer = Result<(), u32>;
 
 /// One side. Both are called through `dyn`, so that neither is inlined where it is timed.
 pub trait Engine {
+    /// What the traces and frames that it is handed look like.
+    fn form(&self) -> Form {
+        Form::TODAY
+    }
+
     fn full_check(&self, config: &Config, trace: &[u32], record: &mut Record) -> Answer;
     fn bench_step(&self, table: &[Config], frames: &[u32], record: &mut Record) -> Answer;
 }

@@ -1,6 +1,8 @@
 //! What is timed: the traces, made from a seed, and the checkers that run over them.
 use crate::engine::{Engine, Plain, Record};
-use crate::plain::{self, fails, Config, Port, Range, ENABLE, FATAL, GOES_ON, HELD, STABILITY, STOPPED, STORED, TRANSITION};
+use crate::form::Form;
+use crate::plain::{self, fails, Config, Frame, Port, Range, ENABLE, FATAL, FRAME, GOES_ON};
+use crate::plain::{HELD, STABILITY, STOPPED, STORED, TRANSITION};
 use std::borrow::Cow;
 use std::rc::Rc;
 use std::slice;
@@ -92,26 +94,20 @@ impl Input {
     }
 }
 
-/// For each call, each kind alone and then 64 checkers of mixed kinds; a bench step for these 64 only. Full checks also on
-/// buses of several widths. Then all but these once more, with fatal checkers.
+/// For each call, each kind alone and then 64 checkers of mixed kinds; a bench step for these 64 only. Full checks and bench
+/// step also on traces with unknown bits, and full checks on buses of several widths. Then all but these once more, with
+/// fatal checkers.
 pub fn tables() -> Vec<Table> {
     let trace: Rc<[u32]> = trace().into();
     let input = |name, call, checkers| Input { name, call, checkers, trace: trace.clone() };
-    let each_alone = |title: &str, call| -> Vec<Input> {
-        alone().into_iter().map(|(name, checker)| input(format!("{title}{name}"), call, vec![checker])).collect()
+    let all = |title: &str, call| -> Vec<Input> {
+        groups().into_iter().map(|(name, checkers)| input(format!("{title}{name}"), call, checkers)).collect()
     };
-    let all = |title: &str, call| {
-        let mut inputs = each_alone(title, call);
-        inputs.push(input(format!("{title}64 mixed"), call, mixed()));
-        inputs
-    };
-    let mut checks = each_alone("", Call::FullCheck);
-    checks.push(input("64 mixed, full check".into(), Call::FullCheck, mixed()));
-    checks.push(input("64 mixed, bench step".into(), Call::Bench, mixed()));
     let mut lists = all("list, none, ", Call::OwnList { one_in: None });
     lists.extend(all("list, 1 in 16, ", Call::OwnList { one_in: Some(16) }));
     let mut tables = vec![
-        Table { columns: BESIDE_RUST, inputs: checks },
+        Table { columns: BESIDE_RUST, inputs: check_inputs("", |_| trace.clone()) },
+        Table { columns: BESIDE_RUST, inputs: check_inputs("unknown, ", |checkers| unknown_trace(&trace, checkers).into()) },
         Table { columns: BESIDE_RUST, inputs: bus_inputs() },
         Table { columns: RECHECKS, inputs: all("recheck, ", Call::Recheck) },
         Table { columns: ONE_CYCLE, inputs: all("recheck of a cycle, ", Call::OneCycle) },
@@ -121,11 +117,22 @@ pub fn tables() -> Vec<Table> {
     tables
 }
 
+/// Full checks of each kind alone and of the 64 mixed, and bench steps of these. `trace` makes the trace for an input's
+/// checkers.
+fn check_inputs(title: &str, trace: impl Fn(&[Config]) -> Rc<[u32]>) -> Vec<Input> {
+    let input = |name, call, checkers: Vec<Config>| {
+        let trace = trace(&checkers);
+        Input { name: format!("{title}{name}"), call, checkers, trace }
+    };
+    let alone = alone().into_iter().map(|(name, checker)| input(name, Call::FullCheck, vec![checker]));
+    let mixed = [("64 mixed, full check", Call::FullCheck), ("64 mixed, bench step", Call::Bench)]
+        .map(|(name, call)| input(name.into(), call, mixed()));
+    alone.chain(mixed).collect()
+}
+
 /// The same checkers, all fatal, each on a trace for each of `FIRST_FAILURES`.
 fn fatal_tables(usual: &Rc<[u32]>) -> Vec<Table> {
-    let alone = alone().into_iter().map(|(name, checker)| (name, vec![checker]));
-    let groups: Vec<Fatal> =
-        alone.chain([("64 mixed".into(), mixed())]).map(|(name, checkers)| Fatal::new(name, checkers, usual)).collect();
+    let groups: Vec<Fatal> = groups().into_iter().map(|(name, checkers)| Fatal::new(name, checkers, usual)).collect();
     let inputs = |title: &str, call, groups: &[Fatal]| -> Vec<Input> {
         (0..FIRST_FAILURES.len()).flat_map(|first| groups.iter().map(move |group| group.input(title, call, first))).collect()
     };
@@ -152,7 +159,7 @@ impl Fatal {
     fn new(name: String, mut checkers: Vec<Config>, usual: &Rc<[u32]>) -> Self {
         checkers.iter_mut().for_each(|config| config.severity = FATAL);
         let quiet = quiet_trace(&checkers);
-        let middle = [&quiet[..4 * MIDDLE], &usual[4 * MIDDLE..]].concat();
+        let middle = [&quiet[..FRAME * MIDDLE], &usual[FRAME * MIDDLE..]].concat();
         Fatal { name, checkers, traces: [quiet.into(), middle.into(), usual.clone()] }
     }
 
@@ -182,6 +189,12 @@ fn bus_inputs() -> Vec<Input> {
         add(transition(bus(0, width, true)));
     }
     inputs
+}
+
+/// Each checker alone, then the 64 mixed.
+fn groups() -> Vec<(String, Vec<Config>)> {
+    let alone = alone().into_iter().map(|(name, checker)| (name, vec![checker]));
+    alone.chain([("64 mixed".into(), mixed())]).collect()
 }
 
 /// A checker of each kind, and where the direction of a bus counts, of each direction.
@@ -257,7 +270,7 @@ fn bus(lowest: u8, width: u8, ascending: bool) -> Range {
 fn trace() -> Vec<u32> {
     let mut streams = Streams::new();
     let mut state = 0;
-    let mut frames = Vec::with_capacity(4 * (CYCLES + BENCH));
+    let mut frames = Vec::with_capacity(FRAME * (CYCLES + BENCH));
     for _ in 0..CYCLES + BENCH {
         let frame = streams.frame(state);
         frames.extend(frame);
@@ -271,20 +284,52 @@ fn trace() -> Vec<u32> {
 fn bus_trace() -> Vec<u32> {
     let mut generator = Generator(SEED);
     let mut p = generator.often();
-    let mut frames = Vec::with_capacity(4 * (CYCLES + BENCH));
+    let mut frames = Vec::with_capacity(FRAME * (CYCLES + BENCH));
     for _ in 0..CYCLES + BENCH {
         let after = generator.often();
         let start_state = if generator.word().is_multiple_of(4) { p } else { generator.often() };
         let next_state = if generator.word().is_multiple_of(8) { generator.often() } else { after };
-        frames.extend([generator.reset(), p, start_state, next_state]);
+        frames.extend(without_unknown([generator.reset(), p, start_state, next_state]));
         p = after;
     }
     frames
 }
 
+/// The trace with an unknown wire in about one of 8 cycles: one of a port that one of the checkers reads. In about one of 32
+/// such cycles reset_n is unknown as well, and in another one enable. The values under unknown bits are those of the trace.
+fn unknown_trace(usual: &[u32], checkers: &[Config]) -> Vec<u32> {
+    let mut generator = Generator(SEED.reverse_bits());
+    let mut trace = usual.to_vec();
+    for [_, _, _, _, unknown @ ..] in trace.as_chunks_mut::<FRAME>().0 {
+        if generator.below(8) != 0 {
+            continue;
+        }
+        let Config { kind, p, q, r, .. } = checkers[generator.below(checkers.len())];
+        let ports = match kind {
+            0..=2 => 1,
+            TRANSITION => 3,
+            _ => 2,
+        };
+        let port = generator.below(ports);
+        let range = [p, q, r][port];
+        unknown[1 + port] = 1 << (usize::from(range.left.min(range.right)) + generator.below(range.width() as usize));
+        unknown[0] = match generator.below(32) {
+            0 => 1,
+            1 => 1 << ENABLE,
+            _ => 0,
+        };
+    }
+    trace
+}
+
 /// The frames of `length` cycles from cycle `from` on.
 pub fn cut(trace: &[u32], from: usize, length: usize) -> &[u32] {
-    &trace[4 * from..4 * (from + length)]
+    Form::TODAY.cut(trace, from, length)
+}
+
+/// A frame of these words, all of whose wires are known.
+fn without_unknown([reset, p, q, r]: [u32; 4]) -> Frame {
+    [reset, p, q, r, 0, 0, 0, 0]
 }
 
 /// The false record that checker k's recheck starts from. Its rows are those of the trace one cycle later: they are like its
@@ -321,7 +366,7 @@ fn list_trace(config: &Config, one_in: Option<u32>) -> Vec<u32> {
     let mut streams = Streams::new();
     let mut cycle = Cycle::START;
     let mut due = 0;
-    let mut frames = Vec::with_capacity(4 * CYCLES);
+    let mut frames = Vec::with_capacity(FRAME * CYCLES);
     for _ in 0..CYCLES {
         due += u32::from(one_in.is_some_and(|cycles| streams.base.word().is_multiple_of(cycles)));
         cycle = streams.cycle(slice::from_ref(config), &cycle, due > 0);
@@ -339,7 +384,7 @@ fn list_trace(config: &Config, one_in: Option<u32>) -> Vec<u32> {
 fn quiet_trace(checkers: &[Config]) -> Vec<u32> {
     let mut streams = Streams::new();
     let mut cycle = Cycle::START;
-    let mut frames = Vec::with_capacity(4 * (CYCLES + BENCH));
+    let mut frames = Vec::with_capacity(FRAME * (CYCLES + BENCH));
     for t in 0..CYCLES + BENCH {
         let begun = &checkers[..checkers.len().min(t + 1)];
         cycle = streams.cycle(begun, &cycle, false);
@@ -351,14 +396,14 @@ fn quiet_trace(checkers: &[Config]) -> Vec<u32> {
 /// A cycle of one or more checkers: its frame, each one's open word after it, and whether a row has a failure or an illegal
 /// start.
 struct Cycle {
-    frame: [u32; 4],
+    frame: Frame,
     words: [u64; BENCH],
     fails: bool,
 }
 
 impl Cycle {
     /// What the first cycle comes after.
-    const START: Cycle = Cycle { frame: [0; 4], words: [0; BENCH], fails: false };
+    const START: Cycle = Cycle { frame: [0; FRAME], words: [0; BENCH], fails: false };
 }
 
 /// SplitMix64: the same words from the same seed on every machine.
@@ -370,6 +415,11 @@ impl Generator {
         let mixed = (self.0 ^ self.0 >> 30).wrapping_mul(0xbf58_476d_1ce4_e5b9);
         let mixed = (mixed ^ mixed >> 27).wrapping_mul(0x94d0_49bb_1331_11eb);
         (mixed >> 32) as u32
+    }
+
+    /// A number from 0 on, below the limit.
+    fn below(&mut self, limit: usize) -> usize {
+        self.word() as usize % limit
     }
 
     /// A word of which each bit is 1 three times in 4.
@@ -389,7 +439,7 @@ impl Generator {
     }
 
     /// A frame whose test state is the one given.
-    fn frame(&mut self, state: u32) -> [u32; 4] {
+    fn frame(&mut self, state: u32) -> Frame {
         let next_state = self.state();
         let reset = self.reset();
         let events = self.often() & EVENT_WIRES;
@@ -398,11 +448,11 @@ impl Generator {
         let p = events | start | state << STATES;
         let q = test & 0x00ff_ffff | self.state() << STATES;
         let r = self.word() & 0x00ff_ffff | next_state << STATES;
-        [reset, p, q, r]
+        without_unknown([reset, p, q, r])
     }
 
     /// A test state for the cycle after the frame.
-    fn state_after(&mut self, frame: &[u32; 4]) -> u32 {
+    fn state_after(&mut self, frame: &Frame) -> u32 {
         if self.word().is_multiple_of(8) {
             self.state()
         } else {
@@ -411,7 +461,7 @@ impl Generator {
     }
 
     /// Puts enable, trigger and tracked value on their wires of a frame, which has nothing on the tracked ones.
-    fn add_window(&mut self, [reset, p, q, _]: &mut [u32; 4]) {
+    fn add_window(&mut self, [reset, p, q, ..]: &mut Frame) {
         let enabled = !self.word().is_multiple_of(16);
         let trigger = self.word().is_multiple_of(8);
         let value = if self.word().is_multiple_of(32) { self.word() as usize % TRACKED_VALUES.len() } else { 0 };
@@ -434,7 +484,7 @@ impl Streams {
     }
 
     /// A frame whose test state is the one given.
-    fn frame(&mut self, state: u32) -> [u32; 4] {
+    fn frame(&mut self, state: u32) -> Frame {
         let mut frame = self.base.frame(state);
         self.window.add_window(&mut frame);
         frame

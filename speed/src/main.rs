@@ -4,11 +4,14 @@
 //! Never a test with a time limit: it fails only where two answer differently. A ratio above 2 is a fault to look for.
 mod compare;
 mod engine;
+mod form;
 mod inputs;
 mod plain;
 mod proved;
 mod timing;
 
+use engine::Engine;
+use form::Form;
 use inputs::{Input, Table, CYCLES};
 use proved::Library;
 use std::env;
@@ -37,19 +40,44 @@ fn run() -> Result<(), String> {
     }
     let plan = plan()?;
     let tables = chosen_tables()?;
-    for input in tables.iter().flat_map(|table| &table.inputs) {
-        for (library, number) in libraries.iter().zip(1..) {
-            compare::compare(library, input)
-                .map_err(|difference| format!("library {number}, {}: {difference}", input.name))?;
+    for table in &tables {
+        for library in takers(&libraries, table) {
+            for input in &table.inputs {
+                compare::compare(library, input)
+                    .map_err(|difference| format!("{}, {}: {difference}", library.path, input.name))?;
+            }
         }
     }
     println!("seed {:#x}; {CYCLES} cycles; CPU {}; {}", inputs::SEED, cpu_name(), env!("SPEED_RUSTC"));
     let rounds = plan.least_rounds;
     println!("results equal, entry by entry; memory warm; best of at least {rounds}, interleaved within a row");
+    let [before, today] = timing::read_times([Form::BEFORE, Form::TODAY], plan);
+    println!("memory alone: reading a trace takes {before:.2} ns a cycle with four words a frame, {today:.2} with eight");
     for table in &tables {
-        print_table(table, &libraries, plan);
+        let takers = takers(&libraries, table);
+        if takers.len() < libraries.len() {
+            println!("\nwith unknown bits, so only for libraries with eight words a frame: {}", paths(&takers));
+        }
+        if !takers.is_empty() {
+            print_table(table, &takers, plan);
+        }
     }
     Ok(())
+}
+
+/// The libraries that take the traces of all the table's inputs.
+fn takers<'a>(libraries: &'a [Library], table: &Table) -> Vec<&'a Library> {
+    let takes = |library: &&Library| table.inputs.iter().all(|input| library.form().takes(&input.trace));
+    libraries.iter().filter(takes).collect()
+}
+
+fn paths(libraries: &[&Library]) -> String {
+    let paths: Vec<&str> = libraries.iter().map(|library| &library.path[..]).collect();
+    if paths.is_empty() {
+        "none".into()
+    } else {
+        paths.join(", ")
+    }
 }
 
 /// All inputs; with ONLY, those that have its text in their names, and with SKIP those that do not; and the tables that have
@@ -81,7 +109,7 @@ fn plan() -> Result<Plan, String> {
 }
 
 /// Time, yardstick and their ratio for each input; then the time of the other library, and the first one's divided by it.
-fn print_table(table: &Table, libraries: &[Library], plan: Plan) {
+fn print_table(table: &Table, libraries: &[&Library], plan: Plan) {
     let [time, yardstick] = table.columns;
     print!("\n{:53} {time:>14} {yardstick:>14} {:>7}", "input", "ratio");
     println!("{}", if libraries.len() > 1 { format!(" {:>14} {:>11}", "other", "first/other") } else { String::new() });

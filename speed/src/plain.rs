@@ -12,6 +12,10 @@
 //! the compiler's tests of indices stay where it cannot see that they are not needed.
 //!
 //! A fatal checker has loops of its own, so that those of one that goes on look at no severity.
+//!
+//! Most frames have no unknown bit. Kinds 0 to 2 and 6 ask for one first, and the step that says what it does stands beside
+//! the loop: in it, it would cost each cycle more than the question. The other kinds read one bit more, or ask where they
+//! test: for them a step aside costs more, where bits are unknown, than it saves where none is.
 #![forbid(unsafe_code)]
 
 use std::hint::select_unpredictable;
@@ -31,6 +35,8 @@ pub const ILLEGAL: u32 = 2;
 pub const OPENED: u32 = 4;
 const CLOSED: u32 = 8;
 const RESTARTED: u32 = 16;
+/// What was to be tested is unknown.
+const UNTESTED: u32 = 32;
 
 const MOST_CYCLES: usize = 65_536;
 const MOST_CHECKERS: usize = 64;
@@ -52,8 +58,25 @@ pub const STOPPED: u64 = 1 << 63;
 /// The wire of enable in the reset word; wire 0 is reset_n.
 pub const ENABLE: u32 = 1;
 
-/// Four words of 32 wires: reset, P, Q, R.
-type Frame = [u32; 4];
+/// Eight words of 32 wires: the values of reset, P, Q and R, then the unknown bits of each, in the same order.
+pub type Frame = [u32; FRAME];
+pub const FRAME: usize = 8;
+
+const RESET: usize = 0;
+const P: usize = 1;
+const Q: usize = 2;
+const R: usize = 3;
+
+/// A word of a frame without what stands under its unknown bits: so an unknown reset_n, enable, start, trigger or event is
+/// read as 0.
+fn known(frame: &Frame, word: usize) -> u32 {
+    frame[word] & !unknown(frame, word)
+}
+
+/// The unknown wires of a word.
+fn unknown(frame: &Frame, word: usize) -> u32 {
+    frame[word + FRAME / 2]
+}
 
 /// A port's declaration [left:right]. The C host's layout, as `Config` has: one table serves both sides.
 #[repr(C)]
@@ -83,68 +106,55 @@ pub struct Config {
 #[inline(never)]
 pub fn full_check(config: &Config, trace: &[u32], rows: &mut [u32], words: &mut [u64]) -> Result<(), u32> {
     test_config(config)?;
-    let (frames, rest) = trace.as_chunks::<4>();
+    let (frames, rest) = trace.as_chunks::<FRAME>();
     if !rest.is_empty() || frames.len() > MOST_CYCLES {
         return Err(4);
     }
     if rows.len() != frames.len() || words.len() != frames.len() {
         return Err(5);
     }
-    if config.severity == FATAL {
-        fill_fatal(config, frames, rows, words);
-        return Ok(());
-    }
+    let ascends = config.p.ascends();
     match config.kind {
-        MOST_PIPE => fill(&Sequence::<MOST_PIPE>::new(config), frames, rows, words),
-        FIRST_PIPE => fill(&Sequence::<FIRST_PIPE>::new(config), frames, rows, words),
-        FIRST_NO_PIPE => fill(&Sequence::<FIRST_NO_PIPE>::new(config), frames, rows, words),
-        IGNORE_NEW_START => fill(&Time::<IGNORE_NEW_START>::new(config), frames, rows, words),
-        RESET_ON_NEW_START => fill(&Time::<RESET_ON_NEW_START>::new(config), frames, rows, words),
-        ERROR_ON_NEW_START => fill(&Time::<ERROR_ON_NEW_START>::new(config), frames, rows, words),
-        TRANSITION if config.all_descend() => fill(&Transition::<false>::new(config), frames, rows, words),
-        TRANSITION => fill(&Transition::<true>::new(config), frames, rows, words),
-        VALUE => fill(&Value::new(config), frames, rows, words),
-        _ if config.p.ascends() => fill(&Stability::<true>::new(config), frames, rows, words),
-        _ => fill(&Stability::<false>::new(config), frames, rows, words),
+        MOST_PIPE if ascends => fill(Sequence::<MOST_PIPE, true>::new(config), config, frames, rows, words),
+        MOST_PIPE => fill(Sequence::<MOST_PIPE, false>::new(config), config, frames, rows, words),
+        FIRST_PIPE if ascends => fill(Sequence::<FIRST_PIPE, true>::new(config), config, frames, rows, words),
+        FIRST_PIPE => fill(Sequence::<FIRST_PIPE, false>::new(config), config, frames, rows, words),
+        FIRST_NO_PIPE if ascends => fill(Sequence::<FIRST_NO_PIPE, true>::new(config), config, frames, rows, words),
+        FIRST_NO_PIPE => fill(Sequence::<FIRST_NO_PIPE, false>::new(config), config, frames, rows, words),
+        IGNORE_NEW_START => fill(Time::<IGNORE_NEW_START>::new(config), config, frames, rows, words),
+        RESET_ON_NEW_START => fill(Time::<RESET_ON_NEW_START>::new(config), config, frames, rows, words),
+        ERROR_ON_NEW_START => fill(Time::<ERROR_ON_NEW_START>::new(config), config, frames, rows, words),
+        TRANSITION if config.all_descend() => fill(Transition::<false>::new(config), config, frames, rows, words),
+        TRANSITION => fill(Transition::<true>::new(config), config, frames, rows, words),
+        VALUE => fill(Value::new(config), config, frames, rows, words),
+        _ if ascends => fill(Stability::<true>::new(config), config, frames, rows, words),
+        _ => fill(Stability::<false>::new(config), config, frames, rows, words),
     }
     Ok(())
 }
 
-fn fill(checker: &impl Checker, frames: &[Frame], rows: &mut [u32], words: &mut [u64]) {
+/// The loop of a checker that goes on; a fatal one has its own.
+fn fill(checker: impl Checker, config: &Config, frames: &[Frame], rows: &mut [u32], words: &mut [u64]) {
+    if config.severity == FATAL {
+        return fill_fatal(checker, frames, rows, words);
+    }
     let mut word = 0;
     for ((frame, row), kept) in frames.iter().zip(rows).zip(words) {
-        (*row, word) = step(checker, word, frame);
+        (*row, word) = step(&checker, word, frame);
         *kept = word;
     }
 }
 
 /// A fatal checker is stepped through its first failure; what comes after it depends on no frame.
-fn fill_fatal(config: &Config, frames: &[Frame], rows: &mut [u32], words: &mut [u64]) {
-    let ascends = config.p.ascends();
-    let failed = match config.kind {
-        MOST_PIPE if ascends => fill_to_failure(&Directed::<MOST_PIPE, true>::new(config), frames, rows, words),
-        MOST_PIPE => fill_to_failure(&Directed::<MOST_PIPE, false>::new(config), frames, rows, words),
-        FIRST_PIPE if ascends => fill_to_failure(&Directed::<FIRST_PIPE, true>::new(config), frames, rows, words),
-        FIRST_PIPE => fill_to_failure(&Directed::<FIRST_PIPE, false>::new(config), frames, rows, words),
-        FIRST_NO_PIPE if ascends => fill_to_failure(&Directed::<FIRST_NO_PIPE, true>::new(config), frames, rows, words),
-        FIRST_NO_PIPE => fill_to_failure(&Directed::<FIRST_NO_PIPE, false>::new(config), frames, rows, words),
-        IGNORE_NEW_START => fill_to_failure(&Time::<IGNORE_NEW_START>::new(config), frames, rows, words),
-        RESET_ON_NEW_START => fill_to_failure(&Time::<RESET_ON_NEW_START>::new(config), frames, rows, words),
-        ERROR_ON_NEW_START => fill_to_failure(&Time::<ERROR_ON_NEW_START>::new(config), frames, rows, words),
-        TRANSITION if config.all_descend() => fill_to_failure(&Transition::<false>::new(config), frames, rows, words),
-        TRANSITION => fill_to_failure(&Transition::<true>::new(config), frames, rows, words),
-        VALUE => fill_to_failure(&Value::new(config), frames, rows, words),
-        _ if ascends => fill_to_failure(&Stability::<true>::new(config), frames, rows, words),
-        _ => fill_to_failure(&Stability::<false>::new(config), frames, rows, words),
-    };
-    if let Some(t) = failed {
+fn fill_fatal(checker: impl Checker, frames: &[Frame], rows: &mut [u32], words: &mut [u64]) {
+    if let Some(t) = fill_to_failure(&checker, frames, rows, words) {
         rows[t + 1..].fill(0);
         words[t..].fill(STOPPED);
     }
 }
 
 /// Fills through the first failure, and answers its cycle.
-// Never inlined, as the compiler by itself does not inline `fill`: 14 loops in one function have worse registers.
+// Never inlined: two loops in one function have worse registers.
 #[inline(never)]
 fn fill_to_failure(checker: &impl Checker, frames: &[Frame], rows: &mut [u32], words: &mut [u64]) -> Option<usize> {
     let mut word = 0;
@@ -162,14 +172,14 @@ pub fn bench_step(table: &[Config], frames: &[u32], words: &mut [u64], rows: &mu
     if checkers > MOST_CHECKERS {
         return Err(256 * 9);
     }
-    if frames.len() != 4 * checkers || words.len() != checkers || rows.len() != checkers {
+    if frames.len() != FRAME * checkers || words.len() != checkers || rows.len() != checkers {
         return Err(256 * 5);
     }
     // All are tested before the first is stepped: a refusal writes nothing.
     for (k, (config, word)) in table.iter().zip(words.iter()).enumerate() {
         test_step(config, *word).map_err(|refusal| 256 * refusal + k as u32)?;
     }
-    let (frames, _) = frames.as_chunks::<4>();
+    let (frames, _) = frames.as_chunks::<FRAME>();
     for (((config, frame), word), row) in table.iter().zip(frames).zip(words).zip(rows) {
         (*row, *word) =
             if config.severity == FATAL { fatal_step(config, *word, frame) } else { step_of_kind(config, *word, frame) };
@@ -190,81 +200,88 @@ fn fatal_step(config: &Config, word: u64, frame: &Frame) -> (u32, u64) {
 // It has two callers, and is too large to be inlined in both unasked: each step would pay a call.
 #[inline(always)]
 fn step_of_kind(config: &Config, word: u64, frame: &Frame) -> (u32, u64) {
+    let ascends = config.p.ascends();
     match config.kind {
-        MOST_PIPE => step(&Sequence::<MOST_PIPE>::new(config), word, frame),
-        FIRST_PIPE => step(&Sequence::<FIRST_PIPE>::new(config), word, frame),
-        FIRST_NO_PIPE => step(&Sequence::<FIRST_NO_PIPE>::new(config), word, frame),
+        MOST_PIPE if ascends => step(&Sequence::<MOST_PIPE, true>::new(config), word, frame),
+        MOST_PIPE => step(&Sequence::<MOST_PIPE, false>::new(config), word, frame),
+        FIRST_PIPE if ascends => step(&Sequence::<FIRST_PIPE, true>::new(config), word, frame),
+        FIRST_PIPE => step(&Sequence::<FIRST_PIPE, false>::new(config), word, frame),
+        FIRST_NO_PIPE if ascends => step(&Sequence::<FIRST_NO_PIPE, true>::new(config), word, frame),
+        FIRST_NO_PIPE => step(&Sequence::<FIRST_NO_PIPE, false>::new(config), word, frame),
         IGNORE_NEW_START => step(&Time::<IGNORE_NEW_START>::new(config), word, frame),
         RESET_ON_NEW_START => step(&Time::<RESET_ON_NEW_START>::new(config), word, frame),
         ERROR_ON_NEW_START => step(&Time::<ERROR_ON_NEW_START>::new(config), word, frame),
         TRANSITION => step(&Transition::<true>::new(config), word, frame),
         VALUE => step(&Value::new(config), word, frame),
-        _ if config.p.ascends() => step(&Stability::<true>::new(config), word, frame),
+        _ if ascends => step(&Stability::<true>::new(config), word, frame),
         _ => step(&Stability::<false>::new(config), word, frame),
     }
 }
 
 /// One step: the cycle's row and the next open word. Reset ends every check.
 fn step(checker: &impl Checker, word: u64, frame: &Frame) -> (u32, u64) {
-    if frame[0] & 1 == 0 {
+    if known(frame, RESET) & 1 == 0 {
         return (0, 0);
     }
     checker.step(word, frame)
 }
 
 /// A configured checker, and its step for a cycle out of reset.
+// All steps are inlined by request: each has several callers and some are large, and a loop with a call in it takes longer.
 trait Checker {
     fn step(&self, word: u64, frame: &Frame) -> (u32, u64);
 }
 
-/// Kinds 0 to 2. Bit j of the open word is the attempt that started j cycles ago.
-struct Sequence<const KIND: u8> {
+/// Kinds 0 to 2. Bit j of the open word is the attempt that started j cycles ago. There is a loop for each direction.
+struct Sequence<const KIND: u8, const ASCENDING: bool> {
     /// The events in the order in which an attempt meets them: bit i is the event needed i cycles after the start.
     events: Port,
     last: u32,
 }
 
-impl<const KIND: u8> Sequence<KIND> {
+impl<const KIND: u8, const ASCENDING: bool> Sequence<KIND, ASCENDING> {
     fn new(config: &Config) -> Self {
         let turned = Range { left: config.p.right, right: config.p.left };
         Self { events: Port::new(turned), last: config.n - 1 }
     }
 
-    fn step_on(&self, word: u64, events: u32) -> (u32, u64) {
-        let events = u64::from(events);
+    fn read(&self, wires: u32) -> u64 {
+        // An attempt meets its events from the left on, so it is the descending port that is turned round.
+        self.events.descending(if ASCENDING { wires } else { wires.reverse_bits() }).into()
+    }
+
+    /// The step on a frame with unknown wires.
+    // Never inlined, so that it takes no registers from the loop.
+    #[inline(never)]
+    fn unknown_step(&self, word: u64, frame: &Frame) -> (u32, u64) {
+        self.step_on(word, self.read(known(frame, P)), self.read(unknown(frame, P)))
+    }
+
+    /// The step where these events are there, and these others are unknown.
+    #[inline(always)]
+    fn step_on(&self, word: u64, events: u64, unknown: u64) -> (u32, u64) {
         let accepts = KIND != FIRST_NO_PIPE || word == 0;
         let start = events & u64::from(accepts);
         let older = word << 1;
         let next = (older | start) & events & ((1 << self.last) - 1);
-        let missed = older & !events;
-        let (failure, opened) = match KIND {
-            MOST_PIPE => (missed >> self.last & 1 != 0, next >> (self.last - 1) & 1 != 0),
-            _ => (missed != 0, start != 0),
+        // An attempt of kind 0 that ends before its last event leaves no mark.
+        let (ended, opened) = match KIND {
+            MOST_PIPE => (older & !events & 1 << self.last, next >> (self.last - 1) & 1 != 0),
+            _ => (older & !events, start != 0),
         };
-        (mark(failure, FAILURE) | mark(opened, OPENED), next)
+        let result = mark(ended & !unknown != 0, FAILURE) | mark(ended & unknown != 0, UNTESTED);
+        (result | mark(opened, OPENED), next)
     }
 }
 
-impl<const KIND: u8> Checker for Sequence<KIND> {
+impl<const KIND: u8, const ASCENDING: bool> Checker for Sequence<KIND, ASCENDING> {
+    #[inline(always)]
     fn step(&self, word: u64, frame: &Frame) -> (u32, u64) {
-        self.step_on(word, self.events.value(frame[1]))
-    }
-}
-
-/// Kinds 0 to 2, fatal. Of the loop that goes on the compiler makes one for each direction, but not of one that can stop.
-struct Directed<const KIND: u8, const ASCENDING: bool>(Sequence<KIND>);
-
-impl<const KIND: u8, const ASCENDING: bool> Directed<KIND, ASCENDING> {
-    fn new(config: &Config) -> Self {
-        Self(Sequence::new(config))
-    }
-}
-
-impl<const KIND: u8, const ASCENDING: bool> Checker for Directed<KIND, ASCENDING> {
-    fn step(&self, word: u64, frame: &Frame) -> (u32, u64) {
-        // An attempt meets its events from the left on, so it is the descending port that is turned round.
-        let wires = if ASCENDING { frame[1] } else { frame[1].reverse_bits() };
-        self.0.step_on(word, self.0.events.descending(wires))
+        if unknown(frame, P) == 0 {
+            self.step_on(word, self.read(frame[P]), 0)
+        } else {
+            self.unknown_step(word, frame)
+        }
     }
 }
 
@@ -283,9 +300,9 @@ impl<const KIND: u8> Time<KIND> {
 }
 
 impl<const KIND: u8> Checker for Time<KIND> {
+    #[inline(always)]
     fn step(&self, word: u64, frame: &Frame) -> (u32, u64) {
-        let start = frame[1] >> self.start & 1 != 0;
-        let test = frame[2] >> self.test & 1 != 0;
+        let start = known(frame, P) >> self.start & 1 != 0;
         if word == 0 {
             return if start { (OPENED, self.n) } else { (0, 0) };
         }
@@ -293,7 +310,11 @@ impl<const KIND: u8> Checker for Time<KIND> {
             return (OPENED | RESTARTED, self.n);
         }
         let illegal = KIND == ERROR_ON_NEW_START && start;
-        (mark(!test, FAILURE) | mark(illegal, ILLEGAL) | mark(word == 1, CLOSED), word - 1)
+        let untested = unknown(frame, Q) >> self.test & 1 != 0;
+        // Or it is unknown: in either case no failure.
+        let passed = (frame[Q] | unknown(frame, Q)) >> self.test & 1 != 0;
+        let result = mark(!passed, FAILURE) | mark(untested, UNTESTED);
+        (result | mark(illegal, ILLEGAL) | mark(word == 1, CLOSED), word - 1)
     }
 }
 
@@ -303,11 +324,15 @@ struct Transition<const TURNS: bool> {
     test: Port,
     start_state: Port,
     next_state: Port,
+    /// The wires of each.
+    wires: [u32; 3],
 }
 
 impl<const TURNS: bool> Transition<TURNS> {
     fn new(config: &Config) -> Self {
-        Self { test: Port::new(config.p), start_state: Port::new(config.q), next_state: Port::new(config.r) }
+        let ports = [config.p, config.q, config.r];
+        let [test, start_state, next_state] = ports.map(Port::new);
+        Self { test, start_state, next_state, wires: ports.map(Range::wires) }
     }
 
     fn read(port: &Port, wires: u32) -> u32 {
@@ -317,17 +342,39 @@ impl<const TURNS: bool> Transition<TURNS> {
             port.descending(wires)
         }
     }
+
+    /// The step on a frame with unknown wires, of whatever word.
+    #[inline(never)]
+    fn unknown_step(&self, word: u64, frame: &Frame) -> (u32, u64) {
+        let [p, q, r] = self.wires;
+        let unknown = [unknown(frame, P) & p, unknown(frame, Q) & q, unknown(frame, R) & r];
+        self.step_on(word, frame, unknown.map(|wires| wires != 0))
+    }
+
+    /// The step where each of test, start state and next state has unknown wires or has none.
+    #[inline(always)]
+    fn step_on(&self, word: u64, frame: &Frame, [p_unknown, q_unknown, r_unknown]: [bool; 3]) -> (u32, u64) {
+        let checks = word != 0;
+        let test = Self::read(&self.test, frame[P]);
+        let failure = checks & !p_unknown & (test != word as u32);
+        let starts = !(p_unknown | q_unknown) & (test == Self::read(&self.start_state, frame[Q]));
+        let untested = checks & p_unknown | starts & r_unknown;
+        let stored = STORED | u64::from(Self::read(&self.next_state, frame[R]));
+        // The states of a trace follow no pattern that the processor could guess.
+        let next = select_unpredictable(starts & !r_unknown, stored, 0);
+        (mark(failure, FAILURE) | mark(starts, OPENED) | mark(untested, UNTESTED), next)
+    }
 }
 
 impl<const TURNS: bool> Checker for Transition<TURNS> {
+    #[inline(always)]
     fn step(&self, word: u64, frame: &Frame) -> (u32, u64) {
-        let test = Self::read(&self.test, frame[1]);
-        let failure = (word != 0) & (test != word as u32);
-        let starts = test == Self::read(&self.start_state, frame[2]);
-        let stored = STORED | u64::from(Self::read(&self.next_state, frame[3]));
-        // The states of a trace follow no pattern that the processor could guess.
-        let next = select_unpredictable(starts, stored, 0);
-        (mark(failure, FAILURE) | mark(starts, OPENED), next)
+        // All four words are one comparison, which takes less than a mask for each of the three ports.
+        if frame[FRAME / 2..] == [0; FRAME / 2] {
+            self.step_on(word, frame, [false; 3])
+        } else {
+            self.unknown_step(word, frame)
+        }
     }
 }
 
@@ -347,7 +394,7 @@ impl Window {
 
     /// Whether the cycle opens a window, where none is open. One test for both wires: the processor can guess neither.
     fn opens(&self, frame: &Frame) -> bool {
-        frame[0] >> ENABLE & frame[2] >> self.trigger & 1 != 0
+        known(frame, RESET) >> ENABLE & known(frame, Q) >> self.trigger & 1 != 0
     }
 
     /// Whether a cycle of an open window is tested, where so many are left after it.
@@ -357,7 +404,7 @@ impl Window {
 }
 
 fn is_enabled(frame: &Frame) -> bool {
-    frame[0] >> ENABLE & 1 != 0
+    known(frame, RESET) >> ENABLE & 1 != 0
 }
 
 /// Kind 7. The open word is the number of cycles left.
@@ -370,17 +417,22 @@ struct Value {
 
 impl Value {
     fn new(config: &Config) -> Self {
-        let port = Port::new(config.p);
-        Self { window: Window::new(config), tracked: port.wires(port.mask), expected: port.wires(config.value) }
+        let expected = Port::new(config.p).wires(config.value);
+        Self { window: Window::new(config), tracked: config.p.wires(), expected }
     }
 
     fn row(&self, left: u64, frame: &Frame) -> u32 {
-        let failure = self.window.tests(left, frame) & (frame[1] & self.tracked != self.expected);
-        mark(failure, FAILURE) | mark(left == 0, CLOSED)
+        let tests = self.window.tests(left, frame);
+        let closed = mark(left == 0, CLOSED);
+        if unknown(frame, P) & self.tracked != 0 {
+            return closed | mark(tests, UNTESTED);
+        }
+        closed | mark(tests & (frame[P] & self.tracked != self.expected), FAILURE)
     }
 }
 
 impl Checker for Value {
+    #[inline(always)]
     fn step(&self, word: u64, frame: &Frame) -> (u32, u64) {
         if word == 0 {
             let max = self.window.max;
@@ -396,46 +448,62 @@ impl Checker for Value {
 struct Stability<const ASCENDING: bool> {
     window: Window,
     tracked: Port,
+    wires: u32,
 }
 
 impl<const ASCENDING: bool> Stability<ASCENDING> {
     fn new(config: &Config) -> Self {
-        Self { window: Window::new(config), tracked: Port::new(config.p) }
+        Self { window: Window::new(config), tracked: Port::new(config.p), wires: config.p.wires() }
     }
 
     fn value(&self, frame: &Frame) -> u32 {
-        self.tracked.descending(if ASCENDING { frame[1].reverse_bits() } else { frame[1] })
+        self.tracked.descending(if ASCENDING { frame[P].reverse_bits() } else { frame[P] })
     }
 
-    /// The word after a cycle of a window that had no reference before it: it is the reference if it is tested.
-    fn first_word(&self, left: u64, frame: &Frame) -> u64 {
-        if self.window.tests(left, frame) & (left != 0) {
-            HELD | u64::from(self.value(frame)) << REFERENCE | left
+    fn is_unknown(&self, frame: &Frame) -> bool {
+        unknown(frame, P) & self.wires != 0
+    }
+
+    /// Mark and next word of a cycle of a window that had no reference before it: it is the reference if it is tested and
+    /// known.
+    fn first(&self, left: u64, frame: &Frame) -> (u32, u64) {
+        if !self.window.tests(left, frame) {
+            (0, left)
+        } else if self.is_unknown(frame) {
+            (UNTESTED, left)
+        } else if left != 0 {
+            (0, HELD | u64::from(self.value(frame)) << REFERENCE | left)
         } else {
-            left
+            (0, 0)
         }
     }
 }
 
 impl<const ASCENDING: bool> Checker for Stability<ASCENDING> {
+    #[inline(always)]
     fn step(&self, word: u64, frame: &Frame) -> (u32, u64) {
         if word == 0 {
+            if !self.window.opens(frame) {
+                return (0, 0);
+            }
             let max = self.window.max;
-            let row = OPENED | mark(max == 0, CLOSED);
-            return if self.window.opens(frame) { (row, self.first_word(max, frame)) } else { (0, 0) };
+            let (row, next) = self.first(max, frame);
+            return (row | OPENED | mark(max == 0, CLOSED), next);
         }
         let next = word - 1;
         let closed = next as u16 == 0;
         if word < HELD {
-            return (mark(closed, CLOSED), self.first_word(next, frame));
+            let (row, next) = self.first(next, frame);
+            return (row | mark(closed, CLOSED), next);
         }
         // A window that has its reference is tested to its end.
         let changed = self.value(frame) != (word >> REFERENCE) as u32;
-        let failure = mark(is_enabled(frame) & changed, FAILURE);
+        let result = if self.is_unknown(frame) { UNTESTED } else { mark(changed, FAILURE) };
+        let row = mark(is_enabled(frame), result);
         if closed {
-            (failure | CLOSED, 0)
+            (row | CLOSED, 0)
         } else {
-            (failure, next)
+            (row, next)
         }
     }
 }
@@ -503,6 +571,11 @@ impl Range {
         u32::from(self.left.abs_diff(self.right)) + 1
     }
 
+    /// Its wires, as ones.
+    fn wires(self) -> u32 {
+        u32::MAX >> (32 - self.width()) << self.left.min(self.right)
+    }
+
     fn ascends(self) -> bool {
         self.left < self.right
     }
@@ -566,8 +639,7 @@ fn test_step(config: &Config, word: u64) -> Result<(), u32> {
 /// Kind 8: nothing is open; or a window without a reference; or one that has its reference, so that `min` cycles are over.
 fn is_stability_word(config: &Config, word: u64) -> bool {
     let Some(held) = word.checked_sub(HELD) else {
-        // With min 0 the reference is taken where the window opens.
-        return word == 0 || config.min > 0 && word <= u64::from(config.n);
+        return word <= u64::from(config.n);
     };
     let left = held as u16;
     (1..=config.n - config.min).contains(&left.into()) && held >> REFERENCE >> config.p.width() == 0

@@ -3,7 +3,8 @@
 //! All `unsafe` is here. For each call of the library: every pointer is passed with the length of its own slice, and a slice
 //! that is written is borrowed alone.
 use crate::engine::{Answer, Engine, Record};
-use crate::plain::Config;
+use crate::form::Form;
+use crate::plain::{Config, Range as Wires, GOES_ON};
 use std::ffi::{c_char, c_int, c_void, CStr, CString};
 use std::mem::transmute_copy;
 use std::ops::Range;
@@ -37,6 +38,8 @@ const RTLD_LOCAL: c_int = 0;
 
 /// A library that was loaded. It stays loaded as long as the program runs.
 pub struct Library {
+    pub path: String,
+    form: Form,
     check: Check,
     recheck: Recheck,
     failures: Failures,
@@ -52,26 +55,39 @@ impl Library {
             if handle.is_null() {
                 return Err(format!("{path} cannot be loaded"));
             }
-            Ok(Library {
+            let mut library = Library {
+                path: path.into(),
+                form: Form::TODAY,
                 check: function(handle, c"selvedgeon_check")?,
                 recheck: function(handle, c"selvedgeon_recheck")?,
                 failures: function(handle, c"selvedgeon_failures")?,
                 bench: function(handle, c"selvedgeon_bench")?,
-            })
+            };
+            library.form = Form::of_probe(library.probe()).map_err(|error| format!("{path}: {error}"))?;
+            Ok(library)
         }
     }
 
-    /// The recheck of an edit of those cycles: the cycle where it stopped, then the five changes.
-    pub fn recheck(&self, config: &Config, trace: &[u32], record: &mut Record, edit: Range<usize>) -> Result<[i32; 6], u32> {
+    /// The answer by which `Form` tells the libraries apart.
+    fn probe(&self) -> Answer {
+        let one = Wires { left: 0, right: 0 };
+        let config = Config { kind: 3, n: 1, p: one, q: one, r: one, min: 0, value: 0, severity: GOES_ON };
+        self.full_check(&config, &[0; 4], &mut Record::new(1))
+    }
+
+    /// The recheck of an edit of those cycles: the cycle where it stopped, then the six changes. One of the form before has
+    /// five, and the sixth, of a mark that it does not have, stays 0.
+    pub fn recheck(&self, config: &Config, trace: &[u32], record: &mut Record, edit: Range<usize>) -> Result<[i32; 7], u32> {
         let &Config { kind, n, p, q, r, min, value, severity } = config;
         let Record { rows, words } = record;
-        let mut answer = [0; 6];
+        let mut answer = [0; 7];
+        let due = &mut answer[..self.form.answer];
         #[rustfmt::skip]
         let answered = unsafe {
             (self.recheck)(
                 kind, n, p.left, p.right, q.left, q.right, r.left, r.right, min, value, severity,
                 trace.as_ptr(), trace.len(), rows.as_mut_ptr(), rows.len(), words.as_mut_ptr(), words.len(),
-                edit.start as u64, edit.end as u64, answer.as_mut_ptr(), answer.len(),
+                edit.start as u64, edit.end as u64, due.as_mut_ptr(), due.len(),
             )
         };
         done((answered >> 32) as u32).map(|()| answer)
@@ -92,6 +108,10 @@ impl Library {
 }
 
 impl Engine for Library {
+    fn form(&self) -> Form {
+        self.form
+    }
+
     fn full_check(&self, config: &Config, trace: &[u32], record: &mut Record) -> Answer {
         let &Config { kind, n, p, q, r, min, value, severity } = config;
         let Record { rows, words } = record;

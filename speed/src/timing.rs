@@ -1,10 +1,11 @@
 //! How long the calls take: the best of many rounds, in which the calls that are held against each other take turns.
 use crate::engine::{Engine, Plain, Record};
+use crate::form::Form;
 use crate::inputs::{cut, false_record, true_record, Call, Input, BENCH, CYCLES, LIST};
 use crate::plain::{fails, Config};
 use crate::proved::Library;
 use std::hint::black_box;
-use std::ops::Range;
+use std::ops::{BitOr, Range};
 use std::time::{Duration, Instant};
 
 /// Each call is timed so often, or more often until so much time is over, and the best is taken: what else the machine does
@@ -38,7 +39,7 @@ struct Memory {
 /// A call that is timed. It was done when it was compared, so here it is done as well.
 type Timed<'a> = Box<dyn Fn(&mut Memory) + 'a>;
 
-pub fn times(input: &Input, libraries: &[Library], plan: Plan) -> Times {
+pub fn times(input: &Input, libraries: &[&Library], plan: Plan) -> Times {
     match input.call {
         Call::FullCheck | Call::Bench => all_at_once(input, libraries, plan),
         Call::Recheck | Call::OneCycle | Call::List | Call::OwnList { .. } => one_by_one(input, libraries, plan),
@@ -46,13 +47,13 @@ pub fn times(input: &Input, libraries: &[Library], plan: Plan) -> Times {
 }
 
 /// The calls of all the input's checkers are timed together, beside those of ordinary Rust.
-fn all_at_once(input: &Input, libraries: &[Library], plan: Plan) -> Times {
+fn all_at_once(input: &Input, libraries: &[&Library], plan: Plan) -> Times {
     let (checkers, trace) = (&input.checkers[..], &input.trace[..]);
     let (call, entries): (fn(_, _, _) -> _, _) = match input.call {
         Call::Bench => (bench, BENCH),
         _ => (full_checks, CYCLES),
     };
-    let mut calls: Vec<Timed> = libraries.iter().map(|library| call(library, checkers, trace)).collect();
+    let mut calls: Vec<Timed> = libraries.iter().map(|library| call(*library, checkers, trace)).collect();
     calls.push(call(&Plain, checkers, trace));
     let mut memory = Memory { record: Record::new(entries), list: Vec::new() };
     let best = best_times(&calls, |memory| memory.record.words.fill(0), &mut memory, plan);
@@ -61,7 +62,7 @@ fn all_at_once(input: &Input, libraries: &[Library], plan: Plan) -> Times {
 
 /// Each checker's call is timed alone, beside its full check over the same trace, and the best times are added up: 64 traces
 /// and kept records at once would be too much for the cache, and it would be the memory that is timed.
-fn one_by_one(input: &Input, libraries: &[Library], plan: Plan) -> Times {
+fn one_by_one(input: &Input, libraries: &[&Library], plan: Plan) -> Times {
     let checkers = input.checkers.len();
     let plan = Plan { least_time: plan.least_time / checkers as u32, ..plan };
     let mut memory = Memory { record: Record::new(CYCLES), list: vec![0; LIST] };
@@ -89,19 +90,25 @@ fn recheck_times(
     config: &Config,
     trace: &[u32],
     k: usize,
-    libraries: &[Library],
+    libraries: &[&Library],
     memory: &mut Memory,
     plan: Plan,
 ) -> Vec<Duration> {
     let kept = false_record(config, trace, k);
     let trace = cut(trace, k, CYCLES);
     let mut calls: Vec<Timed> = libraries.iter().map(|library| recheck(library, config, trace, 0..1)).collect();
-    calls.push(full_check(&libraries[0], config, trace));
+    calls.push(full_check(libraries[0], config, trace));
     // Before the full check as well, so that both find the record in the same state of the cache.
     best_times(&calls, |memory| memory.record.copy_from(&kept), memory, plan)
 }
 
-fn one_cycle_times(config: &Config, trace: &[u32], libraries: &[Library], memory: &mut Memory, plan: Plan) -> Vec<Duration> {
+fn one_cycle_times(
+    config: &Config,
+    trace: &[u32],
+    libraries: &[&Library],
+    memory: &mut Memory,
+    plan: Plan,
+) -> Vec<Duration> {
     let edit = CYCLES - 1..CYCLES;
     let mut calls: Vec<Timed> = libraries.iter().map(|library| recheck(library, config, trace, edit.clone())).collect();
     calls.push(Box::new(|memory| {
@@ -113,13 +120,27 @@ fn one_cycle_times(config: &Config, trace: &[u32], libraries: &[Library], memory
 
 /// All the words, each once, and nothing but the loads and one operation a word.
 #[inline(never)]
-fn read(words: &[u64]) -> u64 {
-    words.iter().fold(0, |all, word| all | word)
+fn read<Word: Copy + Default + BitOr<Output = Word>>(words: &[Word]) -> Word {
+    words.iter().fold(Word::default(), |all, word| all | *word)
 }
 
-fn list_times(config: &Config, trace: &[u32], libraries: &[Library], memory: &mut Memory, plan: Plan) -> Vec<Duration> {
+/// What memory alone costs: a trace of each form read once and nothing done with it, in ns a cycle.
+pub fn read_times(forms: [Form; 2], plan: Plan) -> [f64; 2] {
+    let traces = forms.map(|form| vec![1_u32; form.words(CYCLES)]);
+    let calls = traces.each_ref().map(|trace| -> Timed {
+        Box::new(|_| {
+            black_box(read(black_box(&trace[..])));
+        })
+    });
+    let mut memory = Memory { record: Record::new(CYCLES), list: Vec::new() };
+    // As before a full check.
+    let best = best_times(&calls, |memory| memory.record.words.fill(0), &mut memory, plan);
+    [best[0], best[1]].map(|time| time.as_nanos() as f64 / CYCLES as f64)
+}
+
+fn list_times(config: &Config, trace: &[u32], libraries: &[&Library], memory: &mut Memory, plan: Plan) -> Vec<Duration> {
     let mut calls: Vec<Timed> = libraries.iter().map(|library| failures(library, config, trace)).collect();
-    calls.push(full_check(&libraries[0], config, trace));
+    calls.push(full_check(libraries[0], config, trace));
     best_times(&calls, |_| (), memory, plan)
 }
 
@@ -155,9 +176,10 @@ fn per_step(best: &[Duration], steps: usize) -> Times {
 // What is handed in and what comes out goes through `black_box`, so that the compiler knows nothing of either.
 
 fn full_checks<'a>(engine: &'a dyn Engine, checkers: &'a [Config], trace: &'a [u32]) -> Timed<'a> {
+    let (form, own) = (engine.form(), engine.form().trace(trace));
     Box::new(move |memory| {
         for (k, config) in checkers.iter().enumerate() {
-            let trace = black_box(cut(trace, k, CYCLES));
+            let trace = black_box(form.cut(&own, k, CYCLES));
             let answer = engine.full_check(black_box(config), trace, &mut memory.record);
             black_box((answer, &mut *memory)).0.expect("done when compared");
         }
@@ -169,9 +191,10 @@ fn full_check<'a>(library: &'a Library, config: &'a Config, trace: &'a [u32]) ->
 }
 
 fn bench<'a>(engine: &'a dyn Engine, checkers: &'a [Config], trace: &'a [u32]) -> Timed<'a> {
+    let (form, own) = (engine.form(), engine.form().trace(trace));
     Box::new(move |memory| {
         for t in 0..CYCLES {
-            let frames = black_box(cut(trace, t, BENCH));
+            let frames = black_box(form.cut(&own, t, BENCH));
             let answer = engine.bench_step(black_box(checkers), frames, &mut memory.record);
             black_box((answer, &mut *memory)).0.expect("done when compared");
         }
@@ -180,15 +203,17 @@ fn bench<'a>(engine: &'a dyn Engine, checkers: &'a [Config], trace: &'a [u32]) -
 
 /// Where cycle 0 alone is edited, in all later cycles it looks whether it can stop.
 fn recheck<'a>(library: &'a Library, config: &'a Config, trace: &'a [u32], edit: Range<usize>) -> Timed<'a> {
+    let own = library.form().trace(trace);
     Box::new(move |memory| {
-        let answer = library.recheck(black_box(config), black_box(trace), &mut memory.record, black_box(edit.clone()));
+        let answer = library.recheck(black_box(config), black_box(&own), &mut memory.record, black_box(edit.clone()));
         black_box((answer, memory)).0.expect("done when compared");
     })
 }
 
 fn failures<'a>(library: &'a Library, config: &'a Config, trace: &'a [u32]) -> Timed<'a> {
+    let own = library.form().trace(trace);
     Box::new(move |memory| {
-        let answer = library.failures(black_box(config), black_box(trace), &mut memory.list);
+        let answer = library.failures(black_box(config), black_box(&own), &mut memory.list);
         black_box((answer, memory)).0.expect("done when compared");
     })
 }

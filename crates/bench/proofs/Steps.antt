@@ -6,6 +6,7 @@ use native.Mathlib.Nat.{le-refl, le-div-iff-mul-le}
 use native.Mathlib.Omega.{arith}
 use lib.Dec.{T}
 use lib.ListN.{length, getD, length-set}
+use Rattle.rules.specs.Frame.{frameWords}
 use Rattle.rules.specs.declared.config.Config.{Config}
 use Rattle.rules.specs.Config.{Good}
 use Rattle.rules.specs.Possible.{possible}
@@ -62,7 +63,7 @@ module _ (table : List Config) (fs words rows : List ℕ) where
 
     has-frame : (k : ℕ) → k < length table → k < frames fs
     unfolding frames
-    has-frame k h = le-div-iff-mul-le {k = 4} {x = suc k} {y = length fs} (omega arith) .1 (omega (arith, ok .frames-length))
+    has-frame k h = le-div-iff-mul-le {k = frameWords} {x = suc k} {y = length fs} (omega arith) .1 (omega (arith, ok .frames-length))
 
     -- what the step of checker k asks
     pub step-asks : (k : ℕ) → k < length table

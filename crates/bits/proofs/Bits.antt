@@ -1,18 +1,18 @@
 -- Laws of the bits of a number, and of the number made of given bits. Assumes nothing.
 use Prim.Native.Nat.{ℕ, zero, suc, _+_, _-_, _*_, _/_, _%_, _^_, _<_, _≤_, zero-le}
 use mathlib.Core.Path.{_≡_, refl, sym, ap, ap₂, subst⁻¹, _∙_}
-use mathlib.Core.Bool.{Bool, true, false, not, _&&_, _||_, or-true, or-false}
+use mathlib.Core.Bool.{Bool, true, false, not, _&&_, _||_, cond, or-true, or-false}
 use mathlib.Core.Logic.{⊎-elim}
 use native.Mathlib.Nat.{le-of-suc-le-suc, not-suc-le-zero, eq-or-lt-of-le, le-refl, le-step, lt-of-lt-of-le, lt-of-le-of-lt, add-zero, one-mul, zero-mul, mod-lt, mod-eq-of-lt, mod-one, div-one, div-eq-of-lt, mul-mod-left, pow-succ', two-pow-succ, add-comm, div-eq-of-lt-le, add-mul}
 use native.Mathlib.Omega.{arith}
-use lib.Dec.{T, T-not, not-T, eqb, leb, ltb, lit<, leb→le, le→leb, ltb→lt, lt→ltb}
+use lib.Dec.{T, eqb, leb, ltb, lit<, leb→le, le→leb, ltb→lt, lt→ltb}
 use lib.Arith.{digits-div, digits-mod, mod-mul}
-use lib.Bits.{bitAnd, bitOr, and-shr, and-mod, or-shr, or-mod, and-mask, and-le-l}
+use lib.Bits.{bitAnd, bitOr, bitXor, and-shr, and-mod, or-shr, or-mod, xor-shr, xor-mod, xor-lt, xor-zero-r, and-zero-r, and-mask, and-le-l}
 use lib.Pow.{pow-pos, pow-mono, shl-shr, shr-shr, high, low, mod-mod-pow, field, shl-exact}
-use borrow.Author.Tests.{ltb-true, ltb-false, leb-true, leb-false, eq-eqb, ne-eqb}
+use borrow.Author.Tests.{ltb-true, ltb-false, leb-true, leb-false, ne-eqb}
 use native.Mathlib.Numerals.{one-add}
-use Rattle.bits.specs.Bits.{toBit, bit, some, number}
-use Rattle.bits.proofs.Tests.{is-true, of-true, of-false, either, iff-eq, and-intro, and-left, and-right, some-intro, some-elim}
+use Rattle.bits.specs.Bits.{toBit, bit, some, number, without}
+use Rattle.bits.proofs.Tests.{of-false, either, iff-eq, some-ext}
 
 pub toBit-lt : (b : Bool) → toBit b < 2
 toBit-lt true = lit< tt
@@ -104,6 +104,15 @@ same-bits k x y hx hy h =
 pub number-is : (k x : ℕ) (f : ℕ → Bool) → x < 2 ^ k → ((i : ℕ) → i < k → bit x i ≡ f i) → x ≡ number k f
 number-is k x f h e = sym (mod-eq-of-lt h) ∙ sym (number-bits k x) ∙ number-ext k (bit x) f e
 
+-- k ones
+number-ones : (k : ℕ) → number k (λ (i : ℕ). true) ≡ 2 ^ k - 1
+unfolding number
+number-ones zero = refl
+number-ones (suc k) = omega (arith, number-ones k, two-pow-succ k, pow-pos k)
+
+pub bit-ones : (k i : ℕ) → i < k → bit (2 ^ k - 1) i ≡ true
+bit-ones k i l = rw (← number-ones k) (bit-number k (λ (j : ℕ). true) i l)
+
 -- An operation on words that goes bit by bit, as a test of two bits.
 module _ (op : ℕ → ℕ → ℕ) (test : Bool → Bool → Bool) (shr : (a b k : ℕ) → op a b / 2 ^ k ≡ op (a / 2 ^ k) (b / 2 ^ k))
     (rem : (a b k : ℕ) → op a b % 2 ^ k ≡ op (a % 2 ^ k) (b % 2 ^ k)) (one : (p q : Bool) → eqb (op (toBit p) (toBit q)) 1 ≡ test p q) where
@@ -130,6 +139,31 @@ bit-or = bitwise bitOr (λ (p q : Bool). p || q) or-shr or-mod one
     one true false = refl
     one false true = refl
     one false false = refl
+
+pub bit-xor : (a b i : ℕ) → bit (bitXor a b) i ≡ cond (bit b i) (not (bit a i)) (bit a i)
+bit-xor = bitwise bitXor (λ (p q : Bool). cond q (not p) p) xor-shr xor-mod one
+  where
+    one : (p q : Bool) → eqb (bitXor (toBit p) (toBit q)) 1 ≡ cond q (not p) p
+    one true true = refl
+    one true false = refl
+    one false true = refl
+    one false false = refl
+
+-- what the first word has and the second has not
+pub bit-without : (a b i : ℕ) → bit (without a b) i ≡ (bit a i && not (bit b i))
+bit-without a b i =
+    bit-xor a (bitAnd a b) i ∙ ap (λ (d : Bool). cond d (not (bit a i)) (bit a i)) (bit-and a b i) ∙ taken (bit a i) (bit b i)
+  where
+    taken : (p q : Bool) → cond (p && q) (not p) p ≡ (p && not q)
+    taken true true = refl
+    taken true false = refl
+    taken false q = refl
+
+pub without-lt : (k a b : ℕ) → a < 2 ^ k → without a b < 2 ^ k
+without-lt k a b h = xor-lt k a (bitAnd a b) h (omega (arith, and-le-l a b))
+
+pub without-none : (a : ℕ) → without a 0 ≡ a
+without-none a = ap (bitXor a) (and-zero-r a) ∙ xor-zero-r a
 
 pub bit-shr : (x j i : ℕ) → bit (x / 2 ^ j) i ≡ bit x (j + i)
 unfolding bit
@@ -222,49 +256,25 @@ and-low a b m k e =
     ap (bitAnd (bitAnd a b)) e ∙ and-mask (bitAnd a b) k ∙ sym (number-bits k (bitAnd a b))
     ∙ number-ext k (bit (bitAnd a b)) (λ (j : ℕ). bit a j && bit b j) (λ j _. bit-and a b j)
 
--- a mask that has all bits of a word changes nothing, and one that changes nothing has them
-keeps : (k x m : ℕ) → x < 2 ^ k → ((i : ℕ) → i < k → T (bit x i) → T (bit m i)) → bitAnd x m ≡ x
-keeps k x m l h =
-    same-bits k (bitAnd x m) x (lt-of-le-of-lt (and-le-l x m) l) l (λ i g. bit-and x m i ∙ absorbs (bit x i) (bit m i) (h i g))
-  where
-    absorbs : (a b : Bool) → (T a → T b) → (a && b) ≡ a
-    absorbs true b f = is-true b (f tt)
-    absorbs false b f = refl
-
-kept : (x m i : ℕ) → bitAnd x m ≡ x → T (bit x i) → T (bit m i)
-kept x m i e t = and-right (bit x i) (bit m i) (rw (← bit-and x m i, e) t)
-
 bit-twice : (x i : ℕ) → bit (x * 2) (suc i) ≡ bit x i
 bit-twice x i = ap (λ (n : ℕ). bit n (suc i)) (sym (add-zero (x * 2))) ∙ bit-double x 0 i (lit< tt)
 
 bit-even : (x : ℕ) → bit (x * 2) 0 ≡ false
 bit-even x = ap (λ (n : ℕ). bit n 0) (sym (add-zero (x * 2))) ∙ bit-low x 0 (lit< tt)
 
--- A mask changes a doubled word when it lacks the bit above some bit of the word.
-abbrev lacks : ℕ → ℕ → ℕ → Bool
-lacks w m j = bit w j && not (bit m (suc j))
+-- where the first test does not hold, only the others count
+later : (k : ℕ) (f : ℕ → Bool) → f 0 ≡ false → some (suc k) f ≡ some k (λ (j : ℕ). f (suc j))
+unfolding some
+later zero f e = e
+later (suc k) f e = ap (λ (b : Bool). b || f (suc k)) (later k f e)
 
-module _ (k w m : ℕ) (low : w < 2 ^ k) where
-  has-all : some k (lacks w m) ≡ false → (i : ℕ) → i < suc k → T (bit (w * 2) i) → T (bit m i)
-  has-all f zero l t = absurd (of-false (bit-even w) t)
-  has-all f (suc j) l t =
-      ⊎-elim of-true
-      (λ (e : bit m (suc j) ≡ false).
-      absurd
-      (of-false f
-      (some-intro k (lacks w m) j (le-of-suc-le-suc l)
-      (and-intro (bit w j) (not (bit m (suc j))) (rw bit-twice at t) (not-T (bit m (suc j)) (of-false e))))))
-      (either (bit m (suc j)))
-
-  changed : T (some k (lacks w m)) → bitAnd (w * 2) m ≡ w * 2 → ⊥
-  changed h e =
-      let r = some-elim k (lacks w m) h in
-      T-not (bit m (suc (r .at))) (and-right (bit w (r .at)) (not (bit m (suc (r .at)))) (r .holds))
-      (kept (w * 2) m (suc (r .at)) e (rw bit-twice (and-left (bit w (r .at)) (not (bit m (suc (r .at)))) (r .holds))))
-
-  pub lost-some : not (eqb (bitAnd (w * 2) m) (w * 2)) ≡ some k (λ (j : ℕ). bit w j && not (bit m (suc j)))
-  lost-some =
-      ⊎-elim (λ (t : some k (lacks w m) ≡ true). ap not (ne-eqb (bitAnd (w * 2) m) (w * 2) (changed (of-true t))) ∙ sym t)
-      (λ (f : some k (lacks w m) ≡ false).
-      ap not (eq-eqb (bitAnd (w * 2) m) (w * 2) (keeps (suc k) (w * 2) m (omega (arith, two-pow-succ k)) (has-all f))) ∙ sym f)
-      (either (some k (lacks w m)))
+-- A doubled word shares a bit with another when that has the bit above some bit of the word.
+pub shared-some : (k w m : ℕ) → w < 2 ^ k → not (eqb (bitAnd (w * 2) m) 0) ≡ some k (λ (j : ℕ). bit w j && bit m (suc j))
+shared-some k w m low =
+    let small : w * 2 < 2 ^ suc k = omega (arith, two-pow-succ k) in
+    ap (λ (x : ℕ). not (eqb x 0)) (number-is (suc k) shared (bit shared) (lt-of-le-of-lt (and-le-l (w * 2) m) small) (λ i l. refl))
+    ∙ number-some (suc k) (bit shared) ∙ later k (bit shared) (rw (bit-and, bit-even) refl)
+    ∙ some-ext k (λ (j : ℕ). bit shared (suc j)) (λ (j : ℕ). bit w j && bit m (suc j)) (λ j l. rw (bit-and, bit-twice) refl)
+  where
+    shared : ℕ
+    shared = bitAnd (w * 2) m

@@ -3,6 +3,7 @@
 use Prim.Native.Nat.{ℕ, zero, suc, _+_, _*_, _/_, _%_, _^_}
 use mathlib.Core.Bool.{Bool, true, false, _&&_, _||_, cond}
 use lib.Dec.{eqb}
+use lib.Bits.{bitAnd, bitXor}
 
 -- the number 1 where the test holds, and 0 where it does not
 abbrev pub toBit : Bool → ℕ
@@ -26,3 +27,7 @@ every (suc k) f = every k f && f k
 unfoldable pub number : ℕ → (ℕ → Bool) → ℕ
 number zero f = zero
 number (suc k) f = number k f + toBit (f k) * 2 ^ k
+
+-- the ones of x that are not ones of y: its bit i is `bit x i && not (bit y i)` (`bit-without` of `proofs/Bits.antt`)
+abbrev pub without : ℕ → ℕ → ℕ
+without x y = bitXor x (bitAnd x y)

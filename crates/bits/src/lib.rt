@@ -7,3 +7,4 @@ pub use cut::descending;
 pub use cut::masked;
 pub use cut::masked_ascending;
 pub use mask::low_ones;
+pub use mask::without;

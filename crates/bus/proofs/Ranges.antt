@@ -1,16 +1,16 @@
 -- Laws of declared ranges. Assumes nothing.
 use Prim.Native.Nat.{ℕ, suc, _+_, _-_, _^_, _≤_, _<_}
 use mathlib.Core.Path.{_≡_, refl, sym, ap, ap₂, _∙_}
-use mathlib.Core.Bool.{Bool, true, false, cond}
+use mathlib.Core.Bool.{Bool, true, false, not, cond}
 use mathlib.Core.Logic.{⊎-elim}
 use native.Mathlib.Omega.{arith}
 use borrow.Author.Tests.{le-leb, lt-leb, leb-true, leb-false, eq-eqb}
 use lib.Dec.{T, eqb, leb, leb→le, le→leb, eqb→eq}
-use Rattle.bits.specs.Bits.{bit, number}
+use Rattle.bits.specs.Bits.{bit, some, number}
 use Rattle.bus.specs.Range.{width, within, wireOf, valueOf}
 use Rattle.bus.specs.declared.range.Range.{Range}
-use Rattle.bits.proofs.Bits.{number-ext, number-is, number-lt, number-one, bit-number}
-use Rattle.bits.proofs.Tests.{of-true, iff-eq, and-intro, and-left, and-right, either}
+use Rattle.bits.proofs.Bits.{number-ext, number-is, number-lt, number-one, number-some, bit-number}
+use Rattle.bits.proofs.Tests.{of-true, iff-eq, and-intro, and-left, and-right, either, some-intro, some-elim}
 
 pub left-low : (r : Range) → T (within r) → r .left ≤ 31
 unfolding within
@@ -30,6 +30,30 @@ pub value-ascending : (r : Range) (wires : ℕ) → r .left < r .right
     → valueOf r wires ≡ number (suc (r .right - r .left)) (λ (k : ℕ). bit wires (r .right - k))
 unfolding valueOf width wireOf
 value-ascending r wires h = simp (lt-leb _ _ h)
+
+-- wires from one end and from the other are 0 together
+pub none-either-way : (low high wires : ℕ) → low < high
+    → not (eqb (number (suc (high - low)) (λ (k : ℕ). bit wires (low + k))) 0) ≡ not (eqb (number (suc (high - low)) (λ (k : ℕ). bit wires (high - k))) 0)
+none-either-way low high wires h = number-some n up ∙ iff-eq (some n up) (some n down) (turn up down other) (turn down up back) ∙ sym (number-some n down)
+  where
+    n : ℕ
+    n = suc (high - low)
+
+    up : ℕ → Bool
+    up k = bit wires (low + k)
+
+    down : ℕ → Bool
+    down k = bit wires (high - k)
+
+    other : (k : ℕ) → k < n → up k ≡ down (high - low - k)
+    other k l = let e : low + k ≡ high - (high - low - k) = omega arith in ap (bit wires) e
+
+    back : (k : ℕ) → k < n → down k ≡ up (high - low - k)
+    back k l = let e : high - k ≡ low + (high - low - k) = omega arith in ap (bit wires) e
+
+    turn : (f g : ℕ → Bool) → ((k : ℕ) → k < n → f k ≡ g (high - low - k)) → T (some n f) → T (some n g)
+    turn f g same t =
+        let r = some-elim n f t in some-intro n g (high - low - r .at) (omega arith) (rw (← same (r .at) (r .low)) (r .holds))
 
 -- a port has at most 32 wires
 pub width-le : (r : Range) → T (within r) → width r ≤ 32

@@ -2,15 +2,16 @@
 -- fits the width, and of wires that are all 0 it is 0. Assumes nothing.
 use Prim.Native.Nat.{ℕ, suc, _+_, _-_, _^_, _<_, _≤_}
 use mathlib.Core.Path.{_≡_, refl, sym, ap, _∙_}
-use mathlib.Core.Bool.{Bool, true, false, cond}
+use mathlib.Core.Bool.{Bool, true, false, not, cond}
+use mathlib.Core.Logic.{⊎-elim}
 use native.Mathlib.Omega.{arith}
-use lib.Dec.{T, leb, leb→le, lit<}
+use lib.Dec.{T, eqb, leb, leb→le, lit<}
 use lib.Pow.{pow-pos, pow-lt}
-use borrow.Author.Tests.{leb-true, leb-false}
+use borrow.Author.Tests.{leb-true, leb-false, eq-eqb, eqb-true, eqb-false}
 use Rattle.bits.specs.Bits.{bit, number}
 use Rattle.bus.specs.Range.{within, width, wireOf, valueOf}
 use Rattle.bus.specs.declared.range.Range.{Range}
-use Rattle.bits.proofs.Tests.{and-left, and-right}
+use Rattle.bits.proofs.Tests.{either, and-left, and-right}
 use Rattle.bits.proofs.Bits.{number-is, number-lt, bit-number, bit-past}
 
 -- the bit of the value that wire i carries
@@ -33,6 +34,13 @@ value-lt r x = number-lt (width r) (λ k. bit x (wireOf r k))
 pub one-fits : (r : Range) → 1 < 2 ^ width r
 unfolding width
 one-fits r = pow-lt {i = 0} {j = width r} (omega arith)
+
+-- a port of one wire holds 0 or 1
+pub one-wire : (r : Range) (x : ℕ) → width r ≡ 1 → not (eqb (valueOf r x) 0) ≡ eqb (valueOf r x) 1
+one-wire r x v =
+    let low : valueOf r x < 2 = rw v at (value-lt r x) in
+    ⊎-elim (λ (e : eqb (valueOf r x) 0 ≡ true). rw (eqb-true (valueOf r x) 0 e) refl)
+    (λ (e : eqb (valueOf r x) 0 ≡ false). rw e (sym (eq-eqb (valueOf r x) 1 (omega (arith, eqb-false (valueOf r x) 0 e))))) (either (eqb (valueOf r x) 0))
 
 -- wires that are all 0 have the value 0
 pub value-zero : (r : Range) → valueOf r 0 ≡ 0

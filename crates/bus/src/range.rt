@@ -4,6 +4,7 @@ use bits::descending;
 use bits::masked;
 use bits::masked_ascending;
 ghost use mathlib.Core.Path.{_≡_};
+ghost use mathlib.Core.Bool.{not};
 ghost use Prim.Native.Nat.{_≤_};
 ghost use lib.Dec.{T, eqb, leb};
 ghost use Rattle.bus.specs.Range.{width, within, valueOf};
@@ -87,6 +88,20 @@ impl Range {
         ensures { λ r. ⌜ r ≡ valueOf self wires ⌝ }
     {
         masked(self.left as u32, self.right as u32, wires)
+    }
+
+    // Whether some wire of the port is 1, whichever way it is declared: its value is not 0, without putting wires in order.
+    pub fn has_one(self, wires: u32) -> bool
+        requires { ⌜ T (within self) ⌝ }
+        ensures { λ r. ⌜ r ≡ not (eqb (valueOf self wires) 0) ⌝ }
+    {
+        let left = self.left as u32;
+        let right = self.right as u32;
+        if right <= left {
+            masked(left, right, wires) != 0
+        } else {
+            masked(right, left, wires) != 0
+        }
     }
 
     // Whether the one wire of a port of width 1 is 1: its value without putting wires in order.

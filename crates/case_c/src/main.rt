@@ -24,7 +24,7 @@ fn main() {
     io::write_all(STDOUT_FILENO, b"cycle row word\n");
     for t in 0..6 {
         let stepped = monitor.step(Frame {
-            samples: [1, SAMPLES[t], 0, 0],
+            samples: [1, SAMPLES[t], 0, 0, 0, 0, 0, 0],
         });
         monitor = stepped.monitor;
         write_line(t as u64, stepped.row, monitor.word);

@@ -19,9 +19,10 @@ use Rattle.rules.specs.declared.config.Config.{Config}
 use Rattle.rules.specs.declared.frame.Frame.{Frame}
 use Rattle.rules.specs.Config.{Family, family, maxWindow}
 use Rattle.rules.specs.Config.Family.{sequence, time, transition, value, stability, none}
-use Rattle.rules.specs.Frame.{up, P}
+use Rattle.rules.specs.Frame.{up}
 use Rattle.rules.specs.Rules.{Marks, rowOf}
-use Rattle.rules.specs.Step.{leftIn, attemptFails, pends, trackedMarks, stepMarksOf, goingStepRow}
+use Rattle.rules.specs.Sequence.{eventMissed}
+use Rattle.rules.specs.Step.{leftIn, attemptOn, pends, trackedMarks, stepMarksOf, goingStepRow}
 use Rattle.rules.specs.Possible.{possibleOf}
 use Rattle.rules.proofs.Good.{family-time, family-transition, family-value, family-stability, kind-low, possible-are, sequence-config, time-config, value-config, stability-config}
 use Rattle.rules.proofs.TriggerWords.{word-parts}
@@ -76,7 +77,7 @@ one-start false n w t s e l = chosen-none (suc t) (λ u. eqb (suc (u + n)) (w + 
 
 module _ (c : Config) (w : ℕ) (f : Frame) where
   abbrev Lost : ℕ → Bool
-  Lost j = bit w j && not (bit (P c f) (c .n - 1 - suc j)) && (not (eqb (c .kind) 0) || eqb (suc j) (c .n - 1))
+  Lost j = bit w j && eventMissed c f (c .n - 1 - suc j) && (not (eqb (c .kind) 0) || eqb (suc j) (c .n - 1))
 
   -- bit j is the attempt from t−1−j
   lost-starts : (t s : ℕ) → s < t → failedOf c w f t sequence s ≡ bit (number (c .n - 1) Lost) (t - suc s)
@@ -89,24 +90,24 @@ module _ (c : Config) (w : ℕ) (f : Frame) where
       rw q
       (sym
       (bit-number (c .n - 1) Lost (t - suc s) (omega (arith, ltb-true (t - s) (c .n) q))
-      ∙ ap (λ (a : ℕ). bit w (t - suc s) && not (bit (P c f) (c .n - 1 - a)) && (not (eqb (c .kind) 0) || eqb a (c .n - 1))) age)))
+      ∙ ap (λ (a : ℕ). bit w (t - suc s) && eventMissed c f (c .n - 1 - a) && (not (eqb (c .kind) 0) || eqb a (c .n - 1))) age)))
       (λ (q : ltb (t - s) (c .n) ≡ false).
       rw q (sym (bit-past (number (c .n - 1) Lost) (c .n - 1) (t - suc s) (number-lt (c .n - 1) Lost) (omega (arith, ltb-false (t - s) (c .n) q)))))
       (either (ltb (t - s) (c .n))))
 
   -- an attempt that fails sets the mark
-  lost-fails : (j : ℕ) → j < c .n - 1 → T (Lost j) → T (attemptFails c w f)
-  unfolding attemptFails
+  lost-fails : (j : ℕ) → j < c .n - 1 → T (Lost j) → T (attemptOn c w f (eventMissed c))
+  unfolding attemptOn
   lost-fails j l h =
-      let both = and-left (bit w j && not (bit (P c f) (c .n - 1 - suc j))) (not (eqb (c .kind) 0) || eqb (suc j) (c .n - 1)) h in
-      let asked = and-right (bit w j && not (bit (P c f) (c .n - 1 - suc j))) (not (eqb (c .kind) 0) || eqb (suc j) (c .n - 1)) h in
+      let both = and-left (bit w j && eventMissed c f (c .n - 1 - suc j)) (not (eqb (c .kind) 0) || eqb (suc j) (c .n - 1)) h in
+      let asked = and-right (bit w j && eventMissed c f (c .n - 1 - suc j)) (not (eqb (c .kind) 0) || eqb (suc j) (c .n - 1)) h in
       ⊎-elim
       (λ (k : eqb (c .kind) 0 ≡ true).
       let oldest : suc j ≡ c .n - 1 = eqb→eq (suc j) (c .n - 1) (rw k at asked) in
       let i : j ≡ c .n - 2 = omega arith in
       let z : c .n - 1 - suc j ≡ 0 = omega arith in
       rw k (rw (z, i) at both))
-      (λ (k : eqb (c .kind) 0 ≡ false). rw k (some-intro (c .n - 1) (λ i. bit w i && not (bit (P c f) (c .n - 1 - suc i))) j l both))
+      (λ (k : eqb (c .kind) 0 ≡ false). rw k (some-intro (c .n - 1) (λ i. bit w i && eventMissed c f (c .n - 1 - suc i)) j l both))
       (either (eqb (c .kind) 0))
 
   -- no check fails without the mark, and none meets an illegal start
@@ -206,8 +207,8 @@ module _ (c : Config) (w : ℕ) (f : Frame) (row t : ℕ) (r : Ready c w f row t
     lost-young j h =
         let held = bit-holds (c .n - 1) (Lost c w f) j (rw is at h) in
         r .placed .attempts fam j
-        (and-left (bit w j) (not (bit (P c f) (c .n - 1 - suc j)))
-        (and-left (bit w j && not (bit (P c f) (c .n - 1 - suc j))) (not (eqb (c .kind) 0) || eqb (suc j) (c .n - 1)) held))
+        (and-left (bit w j) (eventMissed c f (c .n - 1 - suc j))
+        (and-left (bit w j && eventMissed c f (c .n - 1 - suc j)) (not (eqb (c .kind) 0) || eqb (suc j) (c .n - 1)) held))
 
     pub attempts-are : 0 < row % 4 → stepEntries c w f t ≡ attemptEntries lost t
     unfolding attemptEntries illegalOf

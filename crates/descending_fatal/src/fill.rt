@@ -4,9 +4,9 @@ use rules::Config;
 use rules::STOPPED;
 use trace::Reached;
 use trace::Stretch;
-use trace::frame_at;
 use trace::kept_at_end;
-use transition::descending_cycle;
+use transition::descending_at;
+use transition::ports_cycle;
 ghost use mathlib.Core.Bool.{false};
 ghost use mathlib.Core.Path.{_≡_};
 ghost use Rattle.rules.specs.Config.{GoesOn, fatally};
@@ -27,7 +27,7 @@ pub fn fill(c: Config, trace: &[u32], rows: &mut [u32], words: &mut [u64], s: St
     let kept = s.kept;
     let last = kept_at_end(words, at, to, kept);
     while at < to {
-        let next = descending_cycle(c, word, frame_at(trace, from + at));
+        let next = ports_cycle(c, word, descending_at(c, trace, from + at));
         rows[at] = next.row;
         if fails(next.row) {
             let before = words[at];

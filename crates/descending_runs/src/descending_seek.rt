@@ -2,8 +2,8 @@
 use rules::Config;
 use trace::Reached;
 use trace::Stretch;
-use trace::frame_at;
-use transition::descending_cycle;
+use transition::descending_at;
+use transition::ports_cycle;
 ghost use mathlib.Core.Bool.{true};
 ghost use mathlib.Core.Path.{_≡_};
 ghost use Rattle.rules.specs.Config.{GoesOn};
@@ -31,7 +31,7 @@ pub fn seek_descending(
         if word == kept {
             return Reached { at, word, kept };
         }
-        let next = descending_cycle(c, word, frame_at(trace, from + at));
+        let next = ports_cycle(c, word, descending_at(c, trace, from + at));
         kept = words[at];
         word = next.word;
         rows[at] = next.row;

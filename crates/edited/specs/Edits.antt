@@ -6,7 +6,7 @@ use lib.IntN.{ℤ, pos}
 use lib.ListN.{getD}
 use Rattle.rules.specs.declared.config.Config.{Config}
 use Rattle.rules.specs.declared.frame.Frame.{Frame}
-use Rattle.rules.specs.Frame.{frameWords, sample}
+use Rattle.rules.specs.Frame.{frameWords, frameWord}
 use Rattle.rules.specs.Rules.{marks}
 use Rattle.trace.specs.Traces.{frames}
 use Rattle.lengths.specs.Lengths.{checkRefusal}
@@ -16,7 +16,7 @@ use Rattle.recheck.specs.Rechecks.{Edited, Demanded}
 -- the trace with the frame f in cycle t, and the same frames elsewhere
 pub record Stored (old trace : List ℕ) (t : ℕ) (f : Frame) : Type 0 where
   pub edited : Edited old trace t (suc t)
-  pub frame-is : (k : ℕ) → k < frameWords → getD trace (frameWords * t + k) 0 ≡ sample f k
+  pub frame-is : (k : ℕ) → k < frameWords → getD trace (frameWords * t + k) 0 ≡ frameWord f k
 
 -- where the full check accepts and the trace has the cycle: the recheck did as demand 3 asks, from the old trace's true record
 pub record Done

@@ -3,3 +3,4 @@ mod wires;
 
 pub use wires::Expected;
 pub use wires::expected_wires;
+pub use wires::on_wires;

@@ -20,10 +20,10 @@ use Rattle.rules.specs.Config.{Family, family, Good}
 use Rattle.rules.specs.Config.Family.{sequence, time, transition, value, stability, none}
 use Rattle.rules.specs.Frame.{Trace, up, enabled}
 use Rattle.rules.specs.Checks.{Checks, accepted, busy, fails}
-use Rattle.rules.specs.Sequence.{event, sequenceChecks}
-use Rattle.rules.specs.Time.{startSeen, windowPending, timeChecks, illegalStart}
+use Rattle.rules.specs.Sequence.{event, attemptFinds, sequenceChecks}
+use Rattle.rules.specs.Time.{startSeen, windowPending, windowFinds, timeChecks, illegalStart}
 use Rattle.rules.specs.Transition.{transitionChecks}
-use Rattle.rules.specs.Trigger.{triggerSeen, tested, triggerChecks, valueChecks, stabilityChecks}
+use Rattle.rules.specs.Trigger.{triggerSeen, tested, compared, triggerChecks, valueChecks, stabilityChecks}
 use Rattle.rules.specs.Rules.{marksOf, goingRow, stoppedBefore, row}
 use Rattle.rules.proofs.Rows.{row-failure, row-illegal}
 use Rattle.rules.proofs.Good.{family-time, not-none}
@@ -35,7 +35,7 @@ use Rattle.listed.proofs.Ascending.{Ascending, ascending-append, ascend
 -- a cycle in reset violates no check and starts none
 module _ (c : Config) (tr : Trace) (t : ℕ) (down : up (tr t) ≡ false) where
   not-violated : (k : Family) (s : ℕ) → checksOf k c tr .violated s t ≡ false
-  unfolding checksOf sequenceChecks timeChecks transitionChecks valueChecks stabilityChecks triggerChecks tested enabled
+  unfolding checksOf sequenceChecks attemptFinds timeChecks windowFinds transitionChecks valueChecks stabilityChecks triggerChecks compared tested enabled
   not-violated sequence s = rw down
   not-violated time s = rw down
   not-violated transition s = rw down

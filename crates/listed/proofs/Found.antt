@@ -13,18 +13,17 @@ use native.Mathlib.Nat.{eq-or-lt-of-le, le-of-suc-le-suc, le-refl}
 use native.Mathlib.Omega.{arith}
 use lib.Dec.{eqb}
 use borrow.Author.Tests.{lt-ltb, le-ltb, eq-eqb, ne-eqb, eqb-true, eqb-false}
-use Rattle.bits.specs.Bits.{bit}
 use Rattle.bits.proofs.Tests.{either}
 use Rattle.rules.specs.declared.config.Config.{Config}
 use Rattle.rules.specs.Config.{Family, family, Good}
 use Rattle.rules.specs.Config.Family.{sequence, time, transition, value, stability, none}
-use Rattle.rules.specs.Frame.{Trace, up, enabled, P, R}
+use Rattle.rules.specs.Frame.{Trace, up, enabled, P, R, knownP, knownR}
 use Rattle.rules.specs.Checks.{accepted}
-use Rattle.rules.specs.Sequence.{sequenceChecks}
-use Rattle.rules.specs.Time.{startSeen, testSeen, restarts, timeChecks}
-use Rattle.rules.specs.Transition.{transitionChecks, stored}
+use Rattle.rules.specs.Sequence.{eventMissed, attemptFinds, sequenceChecks}
+use Rattle.rules.specs.Time.{testMissed, startSeen, restarts, windowFinds, timeChecks}
+use Rattle.rules.specs.Transition.{storedCheck, transitionChecks, stored}
 use Rattle.rules.specs.Rules.{goingBefore}
-use Rattle.rules.specs.Step.{leftIn, holds, referenceIn, start, pends, restart, tests, trackedMarks, stepMarksOf}
+use Rattle.rules.specs.Step.{leftIn, holds, referenceIn, start, pends, restart, tests, compares, trackedMarks, stepMarksOf}
 use Rattle.rules.proofs.Good.{family-time, stability-config, not-none}
 use Rattle.rules.proofs.SequenceRules.{not-at-start, pending-bit, bit-young}
 use Rattle.rules.proofs.TimeRules.{pending-count, count-young}
@@ -74,9 +73,9 @@ module _ (c : Config) (tr : Trace) where
       ≡ (up (tr t) && illegalOf c (goingBefore c tr t) (tr t) t k s)
 
   earlier-failed : family (c .kind) ≡ sequence → (t s : ℕ) → s < t → Failing sequence t s
-  unfolding checksOf sequenceChecks failedOf
+  unfolding checksOf sequenceChecks attemptFinds failedOf
   earlier-failed f t s l =
-      reset-first (accepted (sequenceChecks c tr) s) (up (tr t)) (sequenceChecks c tr .pending s t) (not (bit (P c (tr t)) (c .n - 1 - (t - s))))
+      reset-first (accepted (sequenceChecks c tr) s) (up (tr t)) (sequenceChecks c tr .pending s t) (eventMissed c (tr t) (c .n - 1 - (t - s)))
       (not (eqb (c .kind) 0) || eqb (t - s) (c .n - 1))
       ∙ rw (pending-bit c tr f t s l, lt-ltb s t l)
 
@@ -88,10 +87,10 @@ module _ (c : Config) (tr : Trace) where
 
   module _ (f : family (c .kind) ≡ time) (t s : ℕ) where
     time-failed : Failing time t s
-    unfolding checksOf timeChecks startSeen testSeen restarts failedOf stepMarksOf start pends restart
+    unfolding checksOf timeChecks startSeen restarts windowFinds failedOf stepMarksOf start pends restart
     time-failed =
         let w = goingBefore c tr t in
-        let test = not (testSeen c tr t) in
+        let test = testMissed c (tr t) in
         reset-first (accepted (timeChecks c tr) s) (up (tr t)) (timeChecks c tr .pending s t) test (not (restarts c tr t))
         ∙ rw (pending-count c tr f t s)
         (restart-tests (up (tr t)) (eqb (suc (s + c .n)) (w + t)) (pends c w (tr t)) test (eqb (c .kind) 4) (start c w (tr t)))
@@ -105,20 +104,21 @@ module _ (c : Config) (tr : Trace) where
 
   -- a transition check in the next cycle, and in any
   next-failed : family (c .kind) ≡ transition → (s : ℕ) → Failing transition (suc s) s
-  unfolding checksOf transitionChecks failedOf stepMarksOf pends goingBefore stored
+  unfolding checksOf transitionChecks storedCheck failedOf stepMarksOf pends goingBefore stored
   next-failed f s =
-      let here = reset-first (accepted (transitionChecks c tr) s) (up (tr (suc s))) true (not (eqb (P c (tr (suc s))) (R c (tr s)))) true in
-      rw (eq-eqb (suc s) (suc s) refl, word-stored c tr f s, ← value-fails) (simp and-true (simp and-true at here))
+      let differs = knownP c (tr (suc s)) && not (eqb (P c (tr (suc s))) (R c (tr s))) in
+      let here = reset-first (accepted (transitionChecks c tr) s) (up (tr (suc s))) (knownR c (tr s)) differs true in
+      rw (eq-eqb (suc s) (suc s) refl, word-stored c tr f s, ← value-fails) (simp and-true at here)
 
   transition-failed : family (c .kind) ≡ transition → (t s : ℕ) → Failing transition t s
-  unfolding checksOf transitionChecks failedOf
+  unfolding checksOf transitionChecks storedCheck failedOf
   transition-failed f t s =
       ⊎-elim (λ (e : eqb (suc s) t ≡ true). rw (← eqb-true (suc s) t e) (next-failed f s))
       (λ (e : eqb (suc s) t ≡ false). rw (ne-eqb t (suc s) (λ q. eqb-false (suc s) t e (sym q)), e) (simp and-false)) (either (eqb (suc s) t))
 
   -- no check after a trigger fails in reset
   quiet : (t before : ℕ) (wrong : Bool) → up (tr t) ≡ false → trackedMarks c (goingBefore c tr t) (tr t) before wrong .failure ≡ false
-  unfolding trackedMarks tests enabled
+  unfolding trackedMarks compares tests enabled
   quiet t before wrong u = rw u refl
 
   value-failed : family (c .kind) ≡ value → (t s : ℕ) → Failing value t s

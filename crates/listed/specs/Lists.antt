@@ -36,7 +36,7 @@ checksOf time c tr = timeChecks c tr
 checksOf transition c tr = transitionChecks c tr
 checksOf value c tr = valueChecks c tr
 checksOf stability c tr = stabilityChecks c tr
-checksOf none c tr = record { starts = λ s. false; pending = λ s t. false; violated = λ s t. false; ignores = false }
+checksOf none c tr = record { starts = λ s. false; pending = λ s t. false; violated = λ s t. false; doubtful = λ s t. false; ignores = false }
 
 module _ (c : Config) (tr : Trace) (t : ℕ) where
   -- the accepted check from s is violated in cycle t: "A time check's start is where it was opened or last window reset, a transition's the cycle before",

@@ -9,7 +9,8 @@ use Rattle.rules.specs.declared.config.Config.{Config}
 use Rattle.rules.specs.declared.frame.Frame.{Frame}
 use Rattle.rules.specs.Config.{Family, family}
 use Rattle.rules.specs.Config.Family.{sequence, time, transition, value, stability, none}
-use Rattle.rules.specs.Frame.{up, P}
+use Rattle.rules.specs.Frame.{up}
+use Rattle.rules.specs.Sequence.{eventMissed}
 use Rattle.rules.specs.Step.{leftIn, stepMarksOf}
 
 module _ (c : Config) (w : ℕ) (f : Frame) (t : ℕ) where
@@ -21,7 +22,7 @@ module _ (c : Config) (w : ℕ) (f : Frame) (t : ℕ) where
   -- A transition check is from the cycle before.
   unfoldable pub failedOf : Family → ℕ → Bool
   failedOf sequence s =
-      ltb s t && ltb (t - s) (c .n) && bit w (t - suc s) && not (bit (P c f) (c .n - 1 - (t - s))) && (not (eqb (c .kind) 0) || eqb (t - s) (c .n - 1))
+      ltb s t && ltb (t - s) (c .n) && bit w (t - suc s) && eventMissed c f (c .n - 1 - (t - s)) && (not (eqb (c .kind) 0) || eqb (t - s) (c .n - 1))
   failedOf time s = eqb (suc (s + c .n)) (w + t) && stepMarksOf c w f time .failure
   failedOf transition s = eqb (suc s) t && stepMarksOf c w f transition .failure
   failedOf value s = triggeredAt w s && stepMarksOf c w f value .failure

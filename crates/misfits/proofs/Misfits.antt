@@ -1,12 +1,12 @@
 -- Bits that are 0 exactly where a number is as it should be: where bits of two are put together, they are 0 where both are; what lies above a number's k
 -- lowest bits is 0 where it is below 2^k. A number without its lowest set bit has one set bit less. Assumes nothing.
 use Prim.Native.Nat.{ℕ, suc, _+_, _-_, _*_, _/_, _%_, _^_, _<_, _≤_, zero-le}
-use mathlib.Core.Path.{_≡_, refl, ap, ap₂, _∙_}
+use mathlib.Core.Path.{_≡_, refl, sym, ap, ap₂, _∙_}
 use mathlib.Core.Bool.{Bool, true, false, _&&_, _||_, or-false, and-false, and-true}
 use mathlib.Core.Logic.{⊎-elim}
 use native.Mathlib.Nat.{add-zero, lt-of-le-of-lt, mod-lt, mod-eq-of-lt, div-eq-of-lt, div-eq-of-lt-le, zero-mul, one-mul, add-mul, two-pow-succ}
 use native.Mathlib.Omega.{arith}
-use borrow.Author.Tests.{eq-eqb, ne-eqb, eqb-true, eqb-false, le-leb, lt-leb, leb-true, leb-false, lt-ltb, le-ltb, ltb-true, ltb-false}
+use borrow.Author.Tests.{eq-eqb, ne-eqb, eqb-true, eqb-false, le-leb, lt-leb, leb-true, leb-false, ltb-true, ltb-false}
 use lib.Bits.{bitAnd, bitOr, and-le-l, and-le-r, and-zero-l, and-zero-r, or-add-and, or-shr, and-mask}
 use lib.Count.{ones}
 use lib.Dec.{T, eqb, leb, ltb, eqb→eq, lt→ltb, ltb→lt, leb→le, le→leb}
@@ -143,31 +143,26 @@ module _ (w W : ℕ) (some : 0 < W) (u : Bool) (u-is : w < 2 ^ 33 → u ≡ (leb
           (iff-eq (ltb w 1) (eqb w 0) (λ h. of-true (eq-eqb w 0 (omega (arith, ltb→lt w 1 h)))) (λ h. lt→ltb w 1 (omega (arith, eqb→eq w 0 h))))
 
 -- Kind 8, with references below W.
-module _ (w W n min k : ℕ) (some : 0 < W) (W-low : W ≤ 2 ^ 32) (n-low : n ≤ 65535) (min-low : min ≤ n) (k-none : min ≡ 0 → k ≡ 0) (k-some : (min ≡ 0 → ⊥) → k ≡ 16)
-    (u y : Bool) (u-is : w < 2 ^ 49 → u ≡ (leb (2 ^ 48) w || ltb w (2 ^ k)))
+module _ (w W n min : ℕ) (some : 0 < W) (W-low : W ≤ 2 ^ 32) (n-low : n ≤ 65535) (min-low : min ≤ n)
+    (u y : Bool) (u-is : w < 2 ^ 49 → u ≡ (leb (2 ^ 48) w || ltb w (2 ^ 16)))
     (y-is : y ≡ (leb (w / 2 ^ 48) (w % 2 ^ 16) && leb (w % 2 ^ 16 + w / 2 ^ 48 * min) n)) where
   -- what is due: 0, a window without a reference, or one with a reference
   abbrev due : Bool
-  due = eqb w 0 || (ltb 0 min && leb w n) || (leb (2 ^ 48) w && (ltb 0 (w % 2 ^ 16) && leb (w % 2 ^ 16) (n - min)) && ltb ((w - 2 ^ 48) / 2 ^ 16) W)
+  due = eqb w 0 || leb w n || (leb (2 ^ 48) w && (ltb 0 (w % 2 ^ 16) && leb (w % 2 ^ 16) (n - min)) && ltb ((w - 2 ^ 48) / 2 ^ 16) W)
 
   -- without a reference
-  without-is : (ltb w (2 ^ k) && (leb 0 (w % 2 ^ 16) && leb (w % 2 ^ 16 + 0 * min) n)) ≡ (eqb w 0 || (ltb 0 min && leb w n))
-  without-is = ⊎-elim (λ e. none (eqb-true w 0 e)) (λ e. some-left e (eqb-false w 0 e)) (either (eqb w 0))
+  without-is : (ltb w (2 ^ 16) && (leb 0 (w % 2 ^ 16) && leb (w % 2 ^ 16 + 0 * min) n)) ≡ (eqb w 0 || leb w n)
+  without-is =
+      rw (le-leb 0 (w % 2 ^ 16) zero-le, zero-mul, add-zero)
+      (⊎-elim (λ (l : ltb w 65536 ≡ true). let same : w % 65536 ≡ w = mod-eq-of-lt (ltb-true w 65536 l) in rw (l, same) (sym zero-fits))
+      (λ (l : ltb w 65536 ≡ false).
+      rw (l, lt-leb w n (omega (arith, ltb-false w 65536 l)), ne-eqb w 0 (λ z. omega (arith, ltb-false w 65536 l))))
+      (either (ltb w 65536)))
     where
-      none : w ≡ 0 → (ltb w (2 ^ k) && (leb 0 (w % 2 ^ 16) && leb (w % 2 ^ 16 + 0 * min) n)) ≡ (eqb w 0 || (ltb 0 min && leb w n))
-      none z = rw (z, lt-ltb 0 (2 ^ k) (pow-pos k), zero-mul, le-leb 0 n zero-le)
-
-      some-left : eqb w 0 ≡ false → (w ≡ 0 → ⊥) → (ltb w (2 ^ k) && (leb 0 (w % 2 ^ 16) && leb (w % 2 ^ 16 + 0 * min) n)) ≡ (eqb w 0 || (ltb 0 min && leb w n))
-      some-left e h =
-          ⊎-elim
-          (λ (m : eqb min 0 ≡ true).
-          let z = eqb-true min 0 m in rw (e, k-none z, z, le-ltb w 1 (omega arith)))
-          (λ (m : eqb min 0 ≡ false).
-          let z = eqb-false min 0 m in
-          rw (e, k-some z, lt-ltb 0 min (omega arith), le-leb 0 (w % 2 ^ 16) zero-le, zero-mul, add-zero)
-          (⊎-elim (λ (l : ltb w 65536 ≡ true). let same : w % 65536 ≡ w = mod-eq-of-lt (ltb-true w 65536 l) in rw (l, same))
-          (λ (l : ltb w 65536 ≡ false). rw (l, lt-leb w n (omega (arith, ltb-false w 65536 l)))) (either (ltb w 65536))))
-          (either (eqb min 0))
+      -- 0 is below any n
+      zero-fits : (eqb w 0 || leb w n) ≡ leb w n
+      zero-fits =
+          ⊎-elim (λ (e : eqb w 0 ≡ true). rw (e, le-leb w n (omega (arith, eqb-true w 0 e)))) (λ (e : eqb w 0 ≡ false). rw e) (either (eqb w 0))
 
   pub window-is : ((leb w (2 ^ 48 + (W * 2 ^ 16 - 1)) && u) && y) ≡ due
   window-is = ⊎-elim tagged plain (either (leb (2 ^ 48) w))
@@ -183,14 +178,14 @@ module _ (w W n min k : ℕ) (some : 0 < W) (W-low : W ≤ 2 ^ 32) (n-low : n �
           let here : w < 2 ^ 49 = omega arith in
           let one : w / 2 ^ 48 ≡ 1 = omega arith in
           let left : ℕ = w % 2 ^ 16 in
-          rw (le-leb w (2 ^ 48 + (W * 2 ^ 16 - 1)) (omega arith), u-is here, y-is, one, e, f, not-zero, long, and-false, and-true)
+          rw (le-leb w (2 ^ 48 + (W * 2 ^ 16 - 1)) (omega arith), u-is here, y-is, one, e, f, not-zero, long, and-true)
           (ap₂ (λ (a b : Bool). a && b)
           (iff-eq (leb 1 left) (ltb 0 left) (λ h. lt→ltb 0 left (leb→le 1 left h)) (λ h. le→leb 1 left (ltb→lt 0 left h)))
           (iff-eq (leb (left + 1 * min) n) (leb left (n - min)) (λ h. le→leb left (n - min) (omega (arith, leb→le (left + 1 * min) n h)))
           (λ h. le→leb (left + 1 * min) n (omega (arith, leb→le left (n - min) h))))))
           (λ (f : ltb ((w - 2 ^ 48) / 2 ^ 16) W ≡ false).
           let over = ltb-false ((w - 2 ^ 48) / 2 ^ 16) W f in
-          rw (lt-leb w (2 ^ 48 + (W * 2 ^ 16 - 1)) (omega arith), f, not-zero, long, and-false, and-false))
+          rw (lt-leb w (2 ^ 48 + (W * 2 ^ 16 - 1)) (omega arith), f, not-zero, long, and-false))
           (either (ltb ((w - 2 ^ 48) / 2 ^ 16) W))
 
       plain : leb (2 ^ 48) w ≡ false → ((leb w (2 ^ 48 + (W * 2 ^ 16 - 1)) && u) && y) ≡ due

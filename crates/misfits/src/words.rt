@@ -76,15 +76,14 @@ fn stored_misfit(c: Config, word: u64) -> u64
     above(word, 0x1_0000_0000 + low_ones(p.width()), 33) | untagged(word, 32, 0)
 }
 
-// Kind 8: the word is 0, the cycles left of a window without a reference, where min is above 0, or those of one with a reference of the width.
+// Kind 8: the word is 0, the cycles left of a window without a reference, or those of one with a reference of the width.
 fn window_misfit(c: Config, word: u64) -> u64
     requires { ⌜ (Good c) × (family (c .kind) ≡ stability) ⌝ }
     ensures { λ r. ⌜ eqb r 0 ≡ goingPossible c word ⌝ }
 {
     let p = c.p;
-    let bits = if c.min == 0 { 0 } else { 16 };
     let limit = REFERENCE_HELD + low_ones(p.width() + 16);
-    above(word, limit, 49) | untagged(word, 48, bits) | cycles_misfit(c, word)
+    above(word, limit, 49) | untagged(word, 48, 16) | cycles_misfit(c, word)
 }
 
 // Kind 8: where a reference is held, at least 1 cycle is left, and at most max - min; otherwise at most max.

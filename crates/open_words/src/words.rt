@@ -82,11 +82,11 @@ fn is_window(c: Config, word: u64) -> bool
     (word == 0) | has_no_reference(c, word) | has_reference(c, word)
 }
 
-// Whether the word is that of a window of kind 8 that has seen no enabled cycle from s+min on. The trigger's own cycle is enabled.
+// Whether the word is that of a window of kind 8 that has compared no cycle: from s+min on none was enabled, or the tracked value was unknown.
 fn has_no_reference(c: Config, word: u64) -> bool
     ensures { λ r. ⌜ r ≡ withoutReference c word ⌝ }
 {
-    (0 < c.min) & (word <= c.n as u64)
+    word <= c.n as u64
 }
 
 // Whether the word is that of a window of kind 8 that holds a value of P: it was taken in s+min or later, so at most max - min cycles are left.

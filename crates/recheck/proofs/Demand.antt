@@ -14,7 +14,7 @@ use lib.ListN.{length, getD}
 use Rattle.bits.proofs.Tests.{is-true, either, every-intro}
 use Rattle.rules.specs.declared.config.Config.{Config}
 use Rattle.rules.specs.Config.{configRefusal, Good}
-use Rattle.rules.specs.Frame.{Trace}
+use Rattle.rules.specs.Frame.{frameWords, Trace}
 use Rattle.rules.specs.Rules.{wordBefore}
 use Rattle.rules.specs.Step.{stepRow, stepWord}
 use Rattle.rules.specs.Possible.{possible}
@@ -80,7 +80,7 @@ true-possible c good trace rows words was =
 
 same-frames : {old trace : List ℕ} {a b : ℕ} → Edited old trace a b → frames old ≡ frames trace
 unfolding frames
-same-frames edited = ap (λ (n : ℕ). n / 4) (edited .same-length)
+same-frames edited = ap (λ (n : ℕ). n / frameWords) (edited .same-length)
 
 -- the words kept are those before each cycle of the old trace
 kept-words : {c : Config} {old trace rows words : List ℕ} {a b : ℕ} → Edited old trace a b → TrueRecord c old rows words → (t : ℕ) → t ≤ frames trace

@@ -58,7 +58,7 @@ pub fn list(r: FailureCount, values: &[u32]) {
     numbers(b" list", values);
 }
 
-// A recheck's refusal, with 7 the cycle whose word is impossible, its end, and the changes of the marks 1, 2, 4, 8 and 16.
+// A recheck's refusal, with 7 the cycle whose word is impossible, its end, and the changes of the marks 1, 2, 4, 8, 16 and 32.
 pub fn answer(r: RecheckResult) {
     text(b"refusal");
     spaced(r.refusal as u64);
@@ -75,6 +75,7 @@ pub fn answer(r: RecheckResult) {
     signed(changes[2]);
     signed(changes[3]);
     signed(changes[4]);
+    signed(changes[5]);
     end_of_line();
 }
 

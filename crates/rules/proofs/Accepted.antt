@@ -1,5 +1,5 @@
--- The laws of accepted starts and of failures, for every kind: a start is accepted unless the kind ignores starts and an accepted check is pending; and where
--- no check is violated in its own start cycle, the checks that fail are earlier ones. Assumes nothing.
+-- The laws of accepted starts, failures and doubts, for every kind: a start is accepted unless the kind ignores starts and an accepted check is pending; and where
+-- no check is violated, or in doubt, in its own start cycle, the checks that are so are earlier ones. Assumes nothing.
 use Prim.Native.Nat.{ℕ, zero, suc, _<_}
 use mathlib.Core.Path.{_≡_, refl, ap, subst⁻¹, _∙_}
 use mathlib.Core.Bool.{Bool, false, not, _&&_, _||_, or-false}
@@ -11,7 +11,7 @@ use lib.ListN.{length, getD, length-append, List·getD-append}
 use lib.Seq.{getD-at}
 use Rattle.bits.specs.Bits.{some}
 use Rattle.bits.proofs.Tests.{some-ext}
-use Rattle.rules.specs.Checks.{Checks, accept, acceptedBefore, accepted, busy, fails}
+use Rattle.rules.specs.Checks.{Checks, accept, acceptedBefore, accepted, busy, fails, doubts}
 
 module _ (k : Checks) where
   before-length : (t : ℕ) → length (acceptedBefore k t) ≡ t
@@ -41,7 +41,15 @@ module _ (k : Checks) where
       (some-ext t (λ s. getD (acceptedBefore k t) s false && k .pending s t) (λ s. accepted k s && k .pending s t)
       (λ s l. ap (λ (b : Bool). b && k .pending s t) (before-at t s l)))
 
+  -- an accepted check of which g holds in t
+  earlier : (g : ℕ → ℕ → Bool) (t : ℕ) → (accepted k t && g t t) ≡ false → some (suc t) (λ s. accepted k s && g s t) ≡ some t (λ s. accepted k s && g s t)
+  unfolding some
+  earlier g t e = let before = some t (λ s. accepted k s && g s t) in ap (λ (b : Bool). before || b) e ∙ or-false before
+
   pub fails-earlier : (t : ℕ) → (accepted k t && k .violated t t) ≡ false → fails k t ≡ some t (λ s. accepted k s && k .violated s t)
-  unfolding fails some
-  fails-earlier t e =
-      let earlier = some t (λ s. accepted k s && k .violated s t) in ap (λ (b : Bool). earlier || b) e ∙ or-false earlier
+  unfolding fails
+  fails-earlier = earlier (k .violated)
+
+  pub doubts-earlier : (t : ℕ) → (accepted k t && k .doubtful t t) ≡ false → doubts k t ≡ some t (λ s. accepted k s && k .doubtful s t)
+  unfolding doubts
+  doubts-earlier = earlier (k .doubtful)

@@ -1,32 +1,50 @@
 -- Frames of given words of 32 bits are proper, and one in reset leaves the word 0 and does not fail. Assumes nothing.
 use Prim.Native.Nat.{ℕ, zero, suc, _^_, _<_}
-use mathlib.Core.Path.{_≡_, refl}
+use mathlib.Core.Path.{_≡_, refl, ap, _∙_}
 use mathlib.Core.Bool.{true}
 use mathlib.Core.List.{[], _∷_}
 use lib.Dec.{lit<}
 use lib.ListN.{getD}
 use Rattle.rules.specs.declared.frame.Frame.{Frame}
 use Rattle.rules.specs.declared.config.Config.{Config}
-use Rattle.bits.specs.Bits.{bit}
+use Rattle.bits.specs.Bits.{bit, without}
+use Rattle.bits.proofs.Bits.{without-none}
+use Rattle.bus.specs.Range.{valueOf}
+use Rattle.bus.specs.declared.range.Range.{Range}
 use Rattle.rules.specs.Frame.{Proper, up}
 use Rattle.rules.specs.Rules.{goingRow, goingWord, failing}
 use Rattle.rules.specs.Step.{goingStepRow}
 use Rattle.rules.specs.Possible.{LeftPassing}
 use Rattle.rules.proofs.Rows.{zero-passes}
 
--- reset, P, Q, R
-abbrev pub frameOf : ℕ → ℕ → ℕ → ℕ → Frame
-frameOf n p q r = record { samples = n ∷ p ∷ q ∷ r ∷ [] }
+-- reset, P, Q, R, and the unknown wires of P
+abbrev pub frameWith : ℕ → ℕ → ℕ → ℕ → ℕ → Frame
+frameWith n p q r u = record { samples = n ∷ p ∷ q ∷ r ∷ 0 ∷ u ∷ 0 ∷ 0 ∷ [] }
 
-pub frame-proper : (n p q r : ℕ) → n < 2 ^ 32 → p < 2 ^ 32 → q < 2 ^ 32 → r < 2 ^ 32 → Proper (frameOf n p q r)
-frame-proper n p q r hn hp hq hr = record { words = refl; small = small }
+-- all wires known
+abbrev pub frameOf : ℕ → ℕ → ℕ → ℕ → Frame
+frameOf n p q r = frameWith n p q r 0
+
+pub with-proper : (n p q r u : ℕ) → n < 2 ^ 32 → p < 2 ^ 32 → q < 2 ^ 32 → r < 2 ^ 32 → u < 2 ^ 32 → Proper (frameWith n p q r u)
+with-proper n p q r u hn hp hq hr hu = record { words = refl; small = small }
   where
-    small : (i : ℕ) → getD (n ∷ p ∷ q ∷ r ∷ []) i 0 < 2 ^ 32
+    small : (i : ℕ) → getD (n ∷ p ∷ q ∷ r ∷ 0 ∷ u ∷ 0 ∷ 0 ∷ []) i 0 < 2 ^ 32
     small zero = hn
     small (suc zero) = hp
     small (suc (suc zero)) = hq
     small (suc (suc (suc zero))) = hr
-    small (suc (suc (suc (suc i)))) = lit< tt
+    small (suc (suc (suc (suc zero)))) = lit< tt
+    small (suc (suc (suc (suc (suc zero))))) = hu
+    small (suc (suc (suc (suc (suc (suc zero)))))) = lit< tt
+    small (suc (suc (suc (suc (suc (suc (suc zero))))))) = lit< tt
+    small (suc (suc (suc (suc (suc (suc (suc (suc i)))))))) = lit< tt
+
+pub frame-proper : (n p q r : ℕ) → n < 2 ^ 32 → p < 2 ^ 32 → q < 2 ^ 32 → r < 2 ^ 32 → Proper (frameOf n p q r)
+frame-proper n p q r hn hp hq hr = with-proper n p q r 0 hn hp hq hr (lit< tt)
+
+-- a port of such a frame holds a value where its wires do
+pub known-value : (r : Range) (wires v : ℕ) → valueOf r wires ≡ v → valueOf r (without wires 0) ≡ v
+known-value r wires v e = ap (valueOf r) (without-none wires) ∙ e
 
 unfoldable pub zero-left : (c : Config) → LeftPassing c 0
 unfolding goingRow goingWord up bit

@@ -119,7 +119,7 @@ module _ (c : Config) (w : ℕ) (fits : 2 ^ width (c .p) ≤ 2 ^ 32) where
       ⊎-elim
       (λ (o : T (eqb w 0 || withoutReference c w)).
       ⊎-elim (λ (z : T (eqb w 0)). omega (arith, eqb→eq w 0 z))
-      (λ (o′ : T (withoutReference c w)). omega (arith, n, leb→le w (c .n) (and-right (ltb 0 (c .min)) (leb w (c .n)) o′)))
+      (λ (o′ : T (withoutReference c w)). omega (arith, n, leb→le w (c .n) o′))
       (or-cases (eqb w 0) (withoutReference c w) o))
       (λ (o : T (withAReference c w)).
       let inside = holds w && (ltb 0 (leftIn w) && leb (leftIn w) (c .n - c .min)) in

@@ -2,6 +2,7 @@
 pub mod Cases
 pub mod Good
 pub mod Accepted
+pub mod Unknown
 pub mod Rows
 pub mod Frames
 pub mod Windows

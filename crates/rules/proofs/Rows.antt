@@ -16,7 +16,7 @@ use Rattle.rules.specs.Step.{stepMarksOf, goingStepRow}
 
 module _ (m : Marks) where
   abbrev rest : ℕ
-  rest = toBit (m .opened) + 2 * toBit (m .closed) + 4 * toBit (m .restarted)
+  rest = toBit (m .opened) + 2 * toBit (m .closed) + 4 * toBit (m .restarted) + 8 * toBit (m .unknown)
 
   row-halves : rowOf m ≡ (rest * 2 + toBit (m .illegal)) * 2 + toBit (m .failure)
   unfolding rowOf

@@ -3,7 +3,7 @@
 -- The attempts that are tested in cycle t are told apart by their age: `running t j` says that the attempt from t−1−j was accepted and was alive
 -- through t−1. From one cycle to the next the ages grow by 1 (`running-first`, `running-next`), a reset leaves none, and so the bits of the word before
 -- t are the running attempts (`before-running`). What the rules say of some earlier start they then say of some bit of the word (`by-age`): whether
--- one is being tested, whether one fails, whether one has all events but the last. Assumes nothing.
+-- one is being tested, whether one fails or is in doubt, whether one has all events but the last. Assumes nothing.
 use Prim.Native.Nat.{ℕ, zero, suc, _+_, _-_, _<_, _≤_}
 use mathlib.Core.Path.{_≡_, refl, sym, ap, subst, subst⁻¹, _∙_, fun-ext}
 use mathlib.Core.Bool.{Bool, true, false, not, _&&_, _||_, and-true, and-false, and-assoc}
@@ -18,24 +18,26 @@ use Rattle.bits.proofs.Bits.{number-ext, bit-number, bit-holds, number-some, nu
 use Rattle.rules.specs.declared.config.Config.{Config}
 use Rattle.rules.specs.Config.{family}
 use Rattle.rules.specs.Config.Family.{sequence}
-use Rattle.rules.specs.Frame.{Trace, up, P}
-use Rattle.rules.specs.Checks.{Checks, accepted, busy, fails}
-use Rattle.rules.specs.Sequence.{event, alive, attemptTested, sequenceChecks, mostSeen, attempts}
+use Rattle.rules.specs.declared.frame.Frame.{Frame}
+use Rattle.rules.specs.Frame.{Trace, frameWord, unknown, up, P}
+use Rattle.rules.specs.Checks.{Checks, accepted, busy, fails, doubts}
+use Rattle.rules.specs.Sequence.{eventMissed, eventUnknown, event, alive, attemptTested, attemptFinds, sequenceChecks, mostSeen, attempts}
 use Rattle.rules.specs.Rules.{marksOf, openOf, goingWord, goingBefore}
-use Rattle.rules.specs.Step.{startsAttempt, attempt, attemptFails, stepMarksOf, stepOpenOf}
-use Rattle.rules.proofs.Accepted.{accepted-law, fails-earlier}
+use Rattle.rules.specs.Step.{startsAttempt, attempt, attemptOn, stepMarksOf, stepOpenOf}
+use Rattle.rules.proofs.Accepted.{accepted-law, fails-earlier, doubts-earlier}
+use Rattle.rules.proofs.Unknown.{one-known, one-met}
 
 and-again : (a b : Bool) → (a && b && a) ≡ (a && b)
 and-again true b = and-true b
 and-again false b = refl
 
--- u for out of reset, b for the event
-has-event : (u b x y z : Bool) → (u && b && x && (u && y && not b && z)) ≡ false
-has-event false b x y z = refl
-has-event true false x y z = refl
-has-event true true false y z = refl
-has-event true true true true z = refl
-has-event true true true false z = refl
+-- u for out of reset, b for the event, g for what is found where there is none
+has-event : (u b x y g z : Bool) → (b && g) ≡ false → (u && b && x && (u && y && g && z)) ≡ false
+has-event false b x y g z e = refl
+has-event true false x y g z e = refl
+has-event true true false y g z e = refl
+has-event true true true true g z e = rw e refl
+has-event true true true false g z e = refl
 
 -- of m = k + 1 tests, the last one alone
 some-last : (m k : ℕ) (f : ℕ → Bool) → m ≡ suc k → some m (λ j. f j && eqb (suc j) m) ≡ f k
@@ -154,14 +156,23 @@ module _ (c : Config) (tr : Trace) where
   pub bit-young : family (c .kind) ≡ sequence → (t j : ℕ) → T (bit (goingBefore c tr t) j) → j < t
   bit-young f t j h = young t j (bit-holds (c .n - 1) (running t) j (rw (before-running f t) at h))
 
-  -- an accepted attempt has its first event, so it is not violated where it starts
-  pub not-at-start : (t : ℕ) → (accepted checks t && checks .violated t t) ≡ false
-  unfolding sequenceChecks event
-  not-at-start t =
+  -- an accepted attempt has its first event, so it is neither violated nor in doubt where it starts
+  without-event : (found : Frame → ℕ → Bool) (t : ℕ) → (bit (P c (tr t)) (c .n - 1) && found (tr t) (c .n - 1)) ≡ false
+      → (accepted checks t && attemptFinds c tr found t t) ≡ false
+  unfolding sequenceChecks event attemptFinds
+  without-event found t e =
       let first : c .n - 1 - (t - t) ≡ c .n - 1 = omega arith in
       rw (accepted-law checks t, first)
-      (has-event (up (tr t)) (bit (P c (tr t)) (c .n - 1)) (not (eqb (c .kind) 2 && busy checks t)) (attemptTested c tr t t)
-      (not (eqb (c .kind) 0) || eqb (t - t) (c .n - 1)))
+      (has-event (up (tr t)) (bit (P c (tr t)) (c .n - 1)) (not (eqb (c .kind) 2 && busy checks t)) (attemptTested c tr t t) (found (tr t) (c .n - 1))
+      (not (eqb (c .kind) 0) || eqb (t - t) (c .n - 1)) e)
+
+  pub not-at-start : (t : ℕ) → (accepted checks t && checks .violated t t) ≡ false
+  unfolding sequenceChecks attemptTested
+  not-at-start t = without-event (eventMissed c) t (one-met c (tr t) (c .n - 1))
+
+  known-at-start : (t : ℕ) → (accepted checks t && checks .doubtful t t) ≡ false
+  unfolding sequenceChecks attemptTested eventUnknown
+  known-at-start t = without-event (eventUnknown c) t (one-known (c .p) (frameWord (tr t) 1) (unknown (tr t) 1) (c .n - 1))
 
   -- ---- the step, over the word of the running attempts
 
@@ -180,23 +191,31 @@ module _ (c : Config) (tr : Trace) where
     running-attempt (suc j) l = rw (running-next, event, here, bit-number (c .n - 1) (running t) j (omega arith))
 
     module _ (two : 2 ≤ c .n) where
-      failure : fails checks t ≡ attemptFails c (runs t) (tr t)
-      unfolding sequenceChecks attemptFails attemptTested
-      failure =
-          fails-earlier checks t (not-at-start t)
-          ∙ simp (here, and-assoc)
-          (simp and-assoc at (by-age t (λ d. not (bit (P c (tr t)) (c .n - 1 - d)) && (not (eqb (c .kind) 0) || eqb d (c .n - 1))))
+      -- the earlier attempts that are tested on an event that is found to be so
+      on-earlier : (found : Frame → ℕ → Bool) → some t (λ s. accepted checks s && attemptFinds c tr found s t) ≡ attemptOn c (runs t) (tr t) found
+      unfolding sequenceChecks attemptFinds attemptOn attemptTested
+      on-earlier found =
+          simp (here, and-assoc)
+          (simp and-assoc at (by-age t (λ d. found (tr t) (c .n - 1 - d) && (not (eqb (c .kind) 0) || eqb d (c .n - 1))))
           ∙ ⊎-elim
           (λ (e : eqb (c .kind) 0 ≡ true).
           let last : c .n - 1 - suc (c .n - 2) ≡ 0 = omega arith in
-          rw (attemptFails, e, bit-number (c .n - 1) (running t) (c .n - 2) (omega arith)) (simp (← and-assoc) (rw last at (some-last (c .n - 1) (c .n - 2) missed (omega arith)))))
+          rw (attemptOn, e, bit-number (c .n - 1) (running t) (c .n - 2) (omega arith)) (simp (← and-assoc) (rw last at (some-last (c .n - 1) (c .n - 2) on (omega arith)))))
           (λ (e : eqb (c .kind) 0 ≡ false).
-          rw (attemptFails, e)
-          (simp and-true (some-ext (c .n - 1) missed (λ j. bit (runs t) j && not (bit (P c (tr t)) (c .n - 1 - suc j))) (λ j l. rw bit-number))))
+          rw (attemptOn, e)
+          (simp and-true (some-ext (c .n - 1) on (λ j. bit (runs t) j && found (tr t) (c .n - 1 - suc j)) (λ j l. rw bit-number))))
           (either (eqb (c .kind) 0)))
         where
-          missed : ℕ → Bool
-          missed j = running t j && not (bit (P c (tr t)) (c .n - 1 - suc j))
+          on : ℕ → Bool
+          on j = running t j && found (tr t) (c .n - 1 - suc j)
+
+      failure : fails checks t ≡ attemptOn c (runs t) (tr t) (eventMissed c)
+      unfolding sequenceChecks attemptTested
+      failure = fails-earlier checks t (not-at-start t) ∙ on-earlier (eventMissed c)
+
+      doubt : doubts checks t ≡ attemptOn c (runs t) (tr t) (eventUnknown c)
+      unfolding sequenceChecks attemptTested
+      doubt = doubts-earlier checks t (known-at-start t) ∙ on-earlier (eventUnknown c)
 
       opened : mostSeen c tr t ≡ attempt c (runs t) (tr t) (c .n - 2)
       unfolding mostSeen sequenceChecks attemptTested
@@ -225,4 +244,4 @@ module _ (c : Config) (tr : Trace) (two : 2 ≤ c .n) (f : family (c .kind) ≡ 
 
   pub sequence-marks : marksOf sequence c tr t ≡ stepMarksOf c (goingBefore c tr t) (tr t) sequence
   unfolding marksOf stepMarksOf
-  sequence-marks = rw (before-running c tr f, failure c tr t here two, opened c tr t here two, accepted-starts c tr t here)
+  sequence-marks = rw (before-running c tr f, failure c tr t here two, doubt c tr t here two, opened c tr t here two, accepted-starts c tr t here)

@@ -15,7 +15,7 @@ use lib.Dec.{T, leb, ltb, eqb, lit<, lt→ltb, ltb→lt, le→leb, leb→le}
 use lib.Pow.{pow-pos, pow-lt, shr-le}
 use borrow.Author.Tests.{lt-ltb, le-ltb, le-leb, eqb-true}
 use Rattle.bits.specs.Bits.{toBit, bit, some, number}
-use Rattle.bus.specs.Range.{width, within}
+use Rattle.bus.specs.Range.{width, within, valueOf}
 use Rattle.bits.proofs.Tests.{either, is-true, of-true, and-left, and-right, and-intro, or-right, some-none, some-intro}
 use Rattle.bits.proofs.Bits.{number-lt, number-is, bit-number, bit-holds, bit-past, bit-shr, bit-top, bit-digit}
 use Rattle.bits.proofs.Ones.{ones-mono, ones-one}
@@ -25,10 +25,11 @@ use Rattle.rules.specs.declared.frame.Frame.{Frame}
 use Rattle.rules.specs.Config.{family}
 use Rattle.rules.specs.Config.Family.{sequence}
 use Rattle.rules.specs.Frame.{Trace, up, P}
+use Rattle.rules.specs.Sequence.{eventMissed}
 use Rattle.rules.specs.Rules.{Marks, goingWord, goingBefore, failing, goingRow}
-use Rattle.rules.specs.Step.{startsAttempt, attempt, attemptFails, stepMarksOf, stepOpenOf}
+use Rattle.rules.specs.Step.{startsAttempt, attempt, attemptOn, stepMarksOf, stepOpenOf}
 use Rattle.rules.specs.Possible.{possibleOf, LeftPassing}
-use Rattle.rules.proofs.Frames.{frameOf, frame-proper, FailsNext}
+use Rattle.rules.proofs.Frames.{frameOf, frame-proper, known-value, FailsNext}
 use Rattle.rules.proofs.Rows.{row-passes, step-fails}
 use Rattle.rules.proofs.SequenceRules.{sequence-open, sequence-marks}
 
@@ -108,7 +109,9 @@ module _ (c : Config) (two : 2 ≤ c .n) (f : family (c .kind) ≡ sequence) (wi
   events : (u i : ℕ) → i < c .n → bit (P c (leaving c w u)) i ≡ wanted c w u i
   unfolding leaving
   events u i l =
-      ap (λ (v : ℕ). bit v i) (value-wires (c .p) (number (c .n) (wanted c w u)) ok (rw wide (number-lt (c .n) (wanted c w u))))
+      ap (λ (v : ℕ). bit v i)
+      (known-value (c .p) (wiresFor (c .p) (number (c .n) (wanted c w u))) (number (c .n) (wanted c w u))
+      (value-wires (c .p) (number (c .n) (wanted c w u)) ok (rw wide (number-lt (c .n) (wanted c w u)))))
       ∙ bit-number (c .n) (wanted c w u) i l
 
   -- a set bit of w is accepted as a start: of kind 2 there is none above it
@@ -146,13 +149,13 @@ module _ (c : Config) (two : 2 ≤ c .n) (f : family (c .kind) ≡ sequence) (wi
   unfolding wanted
   held u i l = events u i (omega arith) ∙ rw (wanted, lt-ltb i (c .n - 1) l) refl
 
-  none-fails : (v u : ℕ) → attemptFails c v (leaving c w u) ≡ false
-  unfolding attemptFails
+  none-fails : (v u : ℕ) → attemptOn c v (leaving c w u) (eventMissed c) ≡ false
+  unfolding attemptOn eventMissed
   none-fails v u =
       ⊎-elim (λ (e : eqb (c .kind) 0 ≡ true). rw (e, held u 0 (omega arith)) (and-false (bit v (c .n - 2))))
       (λ (e : eqb (c .kind) 0 ≡ false).
       rw e
-      (some-none (c .n - 1) (λ j. bit v j && not (bit (P c (leaving c w u)) (c .n - 1 - suc j)))
+      (some-none (c .n - 1) (λ j. bit v j && eventMissed c (leaving c w u) (c .n - 1 - suc j))
       (λ j l. rw (held u (c .n - 1 - suc j) (omega arith)) (and-false (bit v j)))))
       (either (eqb (c .kind) 0))
 
@@ -179,7 +182,7 @@ sequence-left c two small f wide ok w h = record {
 
 -- the oldest attempt there can be misses the last event
 pub sequence-fails : (c : Config) → 2 ≤ c .n → c .n ≤ 32 → family (c .kind) ≡ sequence → width (c .p) ≡ c .n → T (within (c .p)) → FailsNext c
-unfolding stepMarksOf attemptFails up bit ones
+unfolding stepMarksOf attemptOn eventMissed up bit ones
 sequence-fails c two small f wide ok = record {
   word = oldest;
   left = left;
@@ -207,18 +210,21 @@ sequence-fails c two small f wide ok = record {
     set : bit oldest (c .n - 2) ≡ true
     set = bit-top oldest (c .n - 2) (pow-lt (le-refl (suc (c .n - 2)))) ∙ le-leb oldest oldest (le-refl oldest)
 
-    none : (i : ℕ) → bit (P c (frameOf 1 0 0 0)) i ≡ false
-    none i = ap (λ (v : ℕ). bit v i) (value-zero (c .p)) ∙ bit-past 0 0 i (lit< tt) zero-le
+    no-bit : (i : ℕ) → bit (valueOf (c .p) 0) i ≡ false
+    no-bit i = ap (λ (v : ℕ). bit v i) (value-zero (c .p)) ∙ bit-past 0 0 i (lit< tt) zero-le
+
+    none : (i : ℕ) → eventMissed c (frameOf 1 0 0 0) i ≡ true
+    none i = rw (no-bit i) refl
 
     left : LeftPassing c oldest
     left = sequence-left c two small f wide ok oldest may-be
 
-    misses : attemptFails c oldest (frameOf 1 0 0 0) ≡ true
+    misses : attemptOn c oldest (frameOf 1 0 0 0) (eventMissed c) ≡ true
     misses =
         ⊎-elim (λ (e : eqb (c .kind) 0 ≡ true). rw (e, set, none 0) refl)
         (λ (e : eqb (c .kind) 0 ≡ false).
         rw e
-        (is-true (some (c .n - 1) (λ j. bit oldest j && not (bit (P c (frameOf 1 0 0 0)) (c .n - 1 - suc j))))
-        (some-intro (c .n - 1) (λ j. bit oldest j && not (bit (P c (frameOf 1 0 0 0)) (c .n - 1 - suc j))) (c .n - 2) (omega arith)
+        (is-true (some (c .n - 1) (λ j. bit oldest j && eventMissed c (frameOf 1 0 0 0) (c .n - 1 - suc j)))
+        (some-intro (c .n - 1) (λ j. bit oldest j && eventMissed c (frameOf 1 0 0 0) (c .n - 1 - suc j)) (c .n - 2) (omega arith)
         (rw (set, none (c .n - 1 - suc (c .n - 2))) tt))))
         (either (eqb (c .kind) 0))

@@ -13,8 +13,11 @@ use Rattle.rules.specs.declared.frame.Frame.{Frame}
 use Rattle.rules.specs.Config.{Family, family, limits, nFits, minFits, severityFits, fatal, widthsOf, widths, valueFits, ports, maxKind, Good, withSeverity, goingOn, fatally}
 use Rattle.rules.specs.Config.Family.{sequence, time, transition, value, stability, none}
 use Rattle.rules.specs.Frame.{up}
+use Rattle.rules.specs.Sequence.{eventMissed, eventUnknown}
+use Rattle.rules.specs.Time.{testMissed, testUnknown}
+use Rattle.rules.specs.Transition.{startState}
 use Rattle.rules.specs.Rules.{rowOf, failing, stoppedWord}
-use Rattle.rules.specs.Step.{startsAttempt, attempt, attemptFails, start, pends, restart, left, triggered, opens, after, tests, trackedMarks, held, stepMarksOf, stepOpenOf, goingStepRow, goingStepWord, stepRow, stepWord, Steps}
+use Rattle.rules.specs.Step.{startsAttempt, attempt, attemptOn, start, pends, restart, left, triggered, opens, after, tests, compares, trackedMarks, held, stepMarksOf, stepOpenOf, goingStepRow, goingStepWord, stepRow, stepWord, Steps}
 use Rattle.rules.specs.Possible.{withoutReference, withAReference, possibleOf, goingPossible, canFail, possible}
 use Rattle.rules.proofs.Good.{three, numbers, refusal-is}
 use Rattle.rules.proofs.Going.{going-low}
@@ -87,7 +90,7 @@ module _ (x : ℕ) (c : Config) where
 
   module _ (w : ℕ) (f : Frame) where
     with-row : goingStepRow (withSeverity x c) w f ≡ goingStepRow c w f
-    unfolding goingStepRow stepMarksOf startsAttempt attempt attemptFails start pends restart triggered opens after tests trackedMarks
+    unfolding goingStepRow stepMarksOf startsAttempt attempt attemptOn eventMissed eventUnknown testMissed testUnknown startState start pends restart triggered opens after tests compares trackedMarks
     with-row = by (family (c .kind))
       where
         by : (k : Family) → cond (up f) (rowOf (stepMarksOf (withSeverity x c) w f k)) 0 ≡ cond (up f) (rowOf (stepMarksOf c w f k)) 0
@@ -99,7 +102,7 @@ module _ (x : ℕ) (c : Config) where
         by none = refl
 
     with-word : goingStepWord (withSeverity x c) w f ≡ goingStepWord c w f
-    unfolding goingStepWord stepOpenOf startsAttempt attempt start pends left triggered opens after tests held
+    unfolding goingStepWord stepOpenOf startsAttempt attempt startState start pends left triggered opens after tests compares held
     with-word = by (family (c .kind))
       where
         by : (k : Family) → cond (up f) (stepOpenOf (withSeverity x c) w f k) 0 ≡ cond (up f) (stepOpenOf c w f k) 0

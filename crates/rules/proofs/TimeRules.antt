@@ -12,12 +12,13 @@ use Rattle.bits.proofs.Tests.{is-true, of-true, iff-eq}
 use Rattle.rules.specs.declared.config.Config.{Config}
 use Rattle.rules.specs.Config.{family}
 use Rattle.rules.specs.Config.Family.{time}
-use Rattle.rules.specs.Frame.{Trace, up, P, Q}
-use Rattle.rules.specs.Checks.{Checks, accepted, busy, fails}
-use Rattle.rules.specs.Time.{windowPending, startSeen, testSeen, restarts, timeChecks, windowOpened, windowReset, illegalStart, windowClosed, cyclesLeft}
+use Rattle.rules.specs.declared.frame.Frame.{Frame}
+use Rattle.rules.specs.Frame.{Trace, up, P}
+use Rattle.rules.specs.Checks.{Checks, accepted, busy, fails, doubts}
+use Rattle.rules.specs.Time.{testMissed, testUnknown, windowPending, startSeen, restarts, windowFinds, timeChecks, windowOpened, windowReset, illegalStart, windowClosed, cyclesLeft}
 use Rattle.rules.specs.Rules.{marksOf, openOf, goingWord, goingBefore}
 use Rattle.rules.specs.Step.{start, pends, restart, left, stepMarksOf, stepOpenOf}
-use Rattle.rules.proofs.Accepted.{accepted-law, fails-earlier}
+use Rattle.rules.proofs.Accepted.{accepted-law, fails-earlier, doubts-earlier}
 use Rattle.rules.proofs.Windows.{Windowed, in-reset, some-and, some-under, live, count, live-count, busy-count, live-is, young, low, count-read}
 
 -- ---- tests
@@ -90,15 +91,29 @@ module _ (c : Config) (tr : Trace) where
   busy-pends : (t : ℕ) → busy checks t ≡ ltb 0 (left-before t)
   busy-pends = busy-count checks tr (c .n) windowed
 
-  failure-law : (t : ℕ) → up (tr t) ≡ true → fails checks t ≡ (ltb 0 (left-before t) && not (eqb (Q c (tr t)) 1) && not (restart c (left-before t) (tr t)))
-  unfolding busy timeChecks testSeen restarts startSeen restart start pends windowPending
-  failure-law t u =
-      let x = not (testSeen c tr t) in
+  -- a check is not tested where it starts
+  untested : (found : Frame → Bool) (t : ℕ) → (accepted checks t && windowFinds c tr found t t) ≡ false
+  unfolding windowFinds windowPending
+  untested found t = simp (le-ltb t t (le-refl t), and-false)
+
+  -- the test of an earlier check is found to be so
+  on-earlier : (found : Frame → Bool) (t : ℕ) → up (tr t) ≡ true → some t (λ s. accepted checks s && windowFinds c tr found s t)
+      ≡ (ltb 0 (left-before t) && found (tr t) && not (restart c (left-before t) (tr t)))
+  unfolding busy timeChecks windowFinds restarts startSeen restart start pends windowPending
+  on-earlier found t u =
+      let x = found (tr t) in
       let y = eqb (c .kind) 4 && start c (left-before t) (tr t) in
-      fails-earlier checks t (simp (le-ltb t t (le-refl t), and-false))
-      ∙ some-and t (alive t) (λ s. accepted checks s && checks .violated s t) (x && not y)
+      some-and t (alive t) (λ s. accepted checks s && windowFinds c tr found s t) (x && not y)
       (λ s. rw u (regroup (accepted checks s) (checks .pending s t) x (not y)))
       ∙ rw (busy-pends t) (failure-tests (ltb 0 (left-before t)) x y)
+
+  failure-law : (t : ℕ) → up (tr t) ≡ true → fails checks t ≡ (ltb 0 (left-before t) && testMissed c (tr t) && not (restart c (left-before t) (tr t)))
+  unfolding timeChecks windowPending
+  failure-law t u = fails-earlier checks t (untested (testMissed c) t) ∙ on-earlier (testMissed c) t u
+
+  doubt-law : (t : ℕ) → up (tr t) ≡ true → doubts checks t ≡ (ltb 0 (left-before t) && testUnknown c (tr t) && not (restart c (left-before t) (tr t)))
+  unfolding timeChecks windowPending
+  doubt-law t u = doubts-earlier checks t (untested (testUnknown c) t) ∙ on-earlier (testUnknown c) t u
 
   closed-law : (t : ℕ) → up (tr t) ≡ true → windowClosed c tr t ≡ (eqb (left-before t) 1 && not (restart c (left-before t) (tr t)))
   unfolding busy windowClosed restarts startSeen restart start pends
@@ -151,6 +166,7 @@ module _ (c : Config) (tr : Trace) where
       opened = (seen i && not (pending i)) || again i;
       closed = closed-law t u i;
       restarted = again i;
+      unknown = doubt-law t u i;
     }
       where
         seen : startSeen c tr t ≡ start c (left-before t) (tr t)

@@ -12,11 +12,12 @@ use Rattle.bus.proofs.Wires.{wiresFor, wires-small, value-wires, value-zero}
 use Rattle.rules.specs.declared.config.Config.{Config}
 use Rattle.rules.specs.Config.{family, maxWindow}
 use Rattle.rules.specs.Config.Family.{time}
-use Rattle.rules.specs.Frame.{Trace, up, Q}
+use Rattle.rules.specs.Frame.{Trace, up, Q, knownQ}
+use Rattle.rules.specs.Time.{testMissed}
 use Rattle.rules.specs.Rules.{Marks, goingWord, goingBefore, failing, goingRow}
 use Rattle.rules.specs.Step.{start, pends, restart, left, stepMarksOf, stepOpenOf}
 use Rattle.rules.specs.Possible.{possibleOf, LeftPassing}
-use Rattle.rules.proofs.Frames.{frameOf, frame-proper, FailsNext}
+use Rattle.rules.proofs.Frames.{frameOf, frame-proper, known-value, FailsNext}
 use Rattle.rules.proofs.Rows.{row-passes, step-fails}
 use Rattle.rules.proofs.TimeRules.{count-low, time-open, time-marks}
 
@@ -37,7 +38,9 @@ module _ (c : Config) (k : family (c .kind) ≡ time) (v : width (c .p) ≡ 1) (
   starts : (w t : ℕ) → start c w (once c t) ≡ eqb t 0
   unfolding start once
   starts w t =
-      ap (λ (x : ℕ). eqb x 1) (value-wires (c .p) (toBit (eqb t 0)) g (rw v (toBit-lt (eqb t 0)))) ∙ eqb-toBit (eqb t 0)
+      ap (λ (x : ℕ). eqb x 1)
+      (known-value (c .p) (wiresFor (c .p) (toBit (eqb t 0))) (toBit (eqb t 0)) (value-wires (c .p) (toBit (eqb t 0)) g (rw v (toBit-lt (eqb t 0)))))
+      ∙ eqb-toBit (eqb t 0)
 
   counted : (t : ℕ) → goingWord c (once c) t ≡ c .n - t
   unfolding up bit once goingBefore left pends
@@ -47,7 +50,7 @@ module _ (c : Config) (k : family (c .kind) ≡ time) (v : width (c .p) ≡ 1) (
   module _ (v′ : width (c .q) ≡ 1) (g′ : T (within (c .q))) (high : c .n ≤ maxWindow) where
     tested : (t : ℕ) → Q c (once c t) ≡ 1
     unfolding once
-    tested t = value-wires (c .q) 1 g′ (rw v′ (lit< tt))
+    tested t = known-value (c .q) (wiresFor (c .q) 1) 1 (value-wires (c .q) 1 g′ (rw v′ (lit< tt)))
 
     -- the start of cycle 0 is in no window
     legal : (t : ℕ) → stepMarksOf c (goingBefore c (once c) t) (once c t) time .illegal ≡ false
@@ -56,10 +59,10 @@ module _ (c : Config) (k : family (c .kind) ≡ time) (v : width (c .p) ≡ 1) (
     legal (suc t) = rw (starts (goingWord c (once c) t) (suc t), eqb·suc-zero t, and-false) refl
 
     passing : (t : ℕ) → failing (goingRow c (once c) t) ≡ false
-    unfolding stepMarksOf up bit once
+    unfolding stepMarksOf testMissed up bit once
     passing t =
         let marks = time-marks c (once c) k t refl in
-        row-passes c (once c) t time k (ap (λ (m : Marks). m .failure) marks ∙ rw (tested t, and-false) refl) (ap (λ (m : Marks). m .illegal) marks ∙ legal t)
+        row-passes c (once c) t time k (ap (λ (m : Marks). m .failure) marks ∙ rw (tested t, and-false (knownQ c (once c t)), and-false) refl) (ap (λ (m : Marks). m .illegal) marks ∙ legal t)
 
     pub time-left : (w : ℕ) → T (possibleOf time c w) → LeftPassing c w
     unfolding possibleOf once
@@ -77,7 +80,7 @@ module _ (c : Config) (k : family (c .kind) ≡ time) (v : width (c .p) ≡ 1) (
 
     -- the last cycle of a window is tested, without a new start
     pub time-fails : 1 ≤ c .n → FailsNext c
-    unfolding possibleOf stepMarksOf pends restart start up bit
+    unfolding possibleOf stepMarksOf testMissed pends restart start up bit
     time-fails low = record {
       word = 1;
       left = time-left 1 (le→leb 1 (c .n) low);

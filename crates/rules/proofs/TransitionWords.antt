@@ -14,13 +14,13 @@ use Rattle.bus.proofs.Wires.{wiresFor, wires-small, value-wires, value-lt, valu
 use Rattle.rules.specs.declared.config.Config.{Config}
 use Rattle.rules.specs.Config.{family}
 use Rattle.rules.specs.Config.Family.{transition}
-use Rattle.rules.specs.Frame.{Trace, sample, up, R}
+use Rattle.rules.specs.Frame.{Trace, sample, up, R, knownR}
 use Rattle.rules.specs.Checks.{accepted}
-use Rattle.rules.specs.Transition.{transitionChecks, stored}
+use Rattle.rules.specs.Transition.{startState, transitionChecks, stored}
 use Rattle.rules.specs.Rules.{Marks, goingWord, goingBefore}
 use Rattle.rules.specs.Step.{pends, stepMarksOf, stepOpenOf}
 use Rattle.rules.specs.Possible.{possibleOf, LeftPassing}
-use Rattle.rules.proofs.Frames.{frameOf, frame-proper, zero-left, FailsNext}
+use Rattle.rules.proofs.Frames.{frameOf, frame-proper, known-value, zero-left, FailsNext}
 use Rattle.rules.proofs.Rows.{row-passes, step-fails}
 use Rattle.rules.proofs.TransitionRules.{word-stored, transition-open, transition-marks}
 
@@ -31,7 +31,7 @@ value c w = leb (2 ^ 32) w && ltb (w - 2 ^ 32) (2 ^ width (c .p))
 pub transition-possible : (c : Config) (tr : Trace) → family (c .kind) ≡ transition → width (c .r) ≡ width (c .p) → (t : ℕ) →
     T (possibleOf transition c (goingWord c tr t))
 unfolding stored possibleOf
-transition-possible c tr k e t = rw (word-stored c tr k t) (fits (accepted (transitionChecks c tr) t))
+transition-possible c tr k e t = rw (word-stored c tr k t) (fits (accepted (transitionChecks c tr) t && knownR c (tr t)))
   where
     fits : (a : Bool) → T (possibleOf transition c (cond a (2 ^ 32 + R c (tr t)) 0))
     fits true =
@@ -45,14 +45,14 @@ held : Config → ℕ → Trace
 held c v t = frameOf 1 0 0 (wiresFor (c .r) v)
 
 value-left : (c : Config) → family (c .kind) ≡ transition → T (within (c .r)) → (v : ℕ) → v < 2 ^ width (c .r) → LeftPassing c (2 ^ 32 + v)
-unfolding goingWord goingBefore up bit stepMarksOf stepOpenOf pends held
+unfolding goingWord goingBefore up bit stepMarksOf stepOpenOf startState pends held
 value-left c k g v l = record {
   trace = held c v;
   cycle = 0;
   short = lit< tt;
   early = λ z. lit< tt;
   proper = λ t. frame-proper 1 0 0 (wiresFor (c .r) v) (lit< tt) (lit< tt) (lit< tt) (wires-small (c .r) v);
-  leaves = rw k (transition-open c (held c v) k 0 refl ∙ rw (value-zero (c .p), value-zero (c .q), value-wires (c .r) v g l) refl);
+  leaves = rw k (transition-open c (held c v) k 0 refl ∙ rw (value-zero (c .p), value-zero (c .q), value-zero (c .r), known-value (c .r) (wiresFor (c .r) v) v (value-wires (c .r) v g l)) refl);
   passes = λ t z.
       let first : t ≡ 0 = omega arith in
       let marks = transition-marks c (held c v) k 0 refl in
@@ -80,5 +80,6 @@ transition-fails c k gp gr = record {
   room = value-left c k gr 0 (pow-pos (width (c .r))) .early (lit< tt);
   frame = frameOf 1 (wiresFor (c .p) 1) 0 0;
   proper = frame-proper 1 (wiresFor (c .p) 1) 0 0 (lit< tt) (wires-small (c .p) 1) (lit< tt) (lit< tt);
-  fails = step-fails c (2 ^ 32 + 0) (frameOf 1 (wiresFor (c .p) 1) 0 0) transition k refl (rw (value-wires (c .p) 1 gp (one-fits (c .p))) refl);
+  fails = step-fails c (2 ^ 32 + 0) (frameOf 1 (wiresFor (c .p) 1) 0 0) transition k refl
+      (rw (value-zero (c .p), known-value (c .p) (wiresFor (c .p) 1) 1 (value-wires (c .p) 1 gp (one-fits (c .p)))) refl);
 }

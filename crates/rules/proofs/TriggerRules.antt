@@ -12,16 +12,16 @@ use Rattle.bits.proofs.Tests.{is-true, of-true, of-false, iff-eq, and-left, and
 use Rattle.rules.specs.declared.config.Config.{Config}
 use Rattle.rules.specs.Config.{family}
 use Rattle.rules.specs.Config.Family.{value, stability}
-use Rattle.rules.specs.Frame.{Trace, up, enabled, P}
-use Rattle.rules.specs.Checks.{Checks, accepted, busy, fails}
+use Rattle.rules.specs.Frame.{Trace, up, enabled, P, knownP}
+use Rattle.rules.specs.Checks.{Checks, accepted, busy, fails, doubts}
 use Rattle.rules.specs.Window.{atFirst}
-use Rattle.rules.specs.Trigger.{withReference, triggerSeen, triggerPending, inWindow, tested, triggerChecks, valueChecks, hasReference, reference, stabilityChecks, windowEnds, leftWith, valueLeft, stabilityLeft}
+use Rattle.rules.specs.Trigger.{withReference, triggerSeen, triggerPending, inWindow, tested, compared, triggerChecks, valueChecks, hasReference, reference, stabilityChecks, windowEnds, leftWith, valueLeft, stabilityLeft}
 use Rattle.rules.specs.Rules.{windowMarks, marksOf, openOf, goingWord, goingBefore}
-use Rattle.rules.specs.Step.{leftIn, holds, referenceIn, pends, triggered, opens, after, tests, trackedMarks, held, stepMarksOf, stepOpenOf}
+use Rattle.rules.specs.Step.{leftIn, holds, referenceIn, pends, triggered, opens, after, tests, compares, trackedMarks, held, stepMarksOf, stepOpenOf}
 use Rattle.rules.proofs.Accepted.{accepted-law}
 use Rattle.rules.proofs.Windows.{Windowed, in-reset, under, some-and, some-under, live, count, live-range, live-count, live-before, live-is, young, busy-count, read}
 
--- ---- tests: a for accepted, e for enabled, i for a cycle in the window, m for one from s+min on, x for what the check forbids, o for an open window
+-- ---- tests: a for accepted, e for enabled, i for a cycle in the window, m for one from s+min on, x for what is found there, o for an open window
 
 regroup : (a e i m x : Bool) → (a && (e && i && m && x)) ≡ (a && i && (e && m && x))
 regroup true true i m x = and-assoc i m x
@@ -146,23 +146,43 @@ module _ (c : Config) (tr : Trace) (wrong : ℕ → ℕ → Bool) where
 
   -- ---- the marks of a cycle: of a check that is current in t only what it requires is left to say
 
-  module _ (t : ℕ) (x : Bool) (same : (s : ℕ) → T (current t s) → wrong s t ≡ x) where
+  module _ (t : ℕ) (found : ℕ → Bool) (x : Bool) (same : (s : ℕ) → T (current t s) → found s ≡ x) where
     -- of one check
-    violated-law : (s : ℕ) → (accepted checks s && checks .violated s t)
-        ≡ (current t s && (enabled (tr t) && leb (left-after t + c .min) (c .n) && x))
-    unfolding triggerChecks tested
-    violated-law s =
-        regroup (accepted checks s) (enabled (tr t)) (inWindow c tr s t) (leb (s + c .min) t) (wrong s t)
-        ∙ under (current t s) (enabled (tr t) && leb (s + c .min) t && wrong s t) (enabled (tr t) && leb (left-after t + c .min) (c .n) && x)
+    tested-law : (s : ℕ) → (accepted checks s && (tested c tr s t && found s)) ≡ (current t s && (enabled (tr t) && leb (left-after t + c .min) (c .n) && x))
+    unfolding tested
+    tested-law s =
+        regroup (accepted checks s) (enabled (tr t)) (inWindow c tr s t) (leb (s + c .min) t) (found s)
+        ∙ under (current t s) (enabled (tr t) && leb (s + c .min) t && found s) (enabled (tr t) && leb (left-after t + c .min) (c .n) && x)
         (λ h. rw (from t s h, same s h) refl)
 
-    failure-law : fails checks t
+    some-tested : some (suc t) (λ s. accepted checks s && (tested c tr s t && found s))
         ≡ (enabled (tr t) && (ltb 0 (left-before t) || accepted checks t) && leb (left-after t + c .min) (c .n) && x)
-    unfolding fails
-    failure-law =
-        some-and (suc t) (current t) (λ s. accepted checks s && checks .violated s t) (enabled (tr t) && leb (left-after t + c .min) (c .n) && x) violated-law
+    some-tested =
+        some-and (suc t) (current t) (λ s. accepted checks s && (tested c tr s t && found s)) (enabled (tr t) && leb (left-after t + c .min) (c .n) && x) tested-law
         ∙ rw (some-current t)
         (enabled-first (ltb 0 (left-before t) || accepted checks t) (enabled (tr t)) (leb (left-after t + c .min) (c .n)) x)
+
+  -- a check is violated, or in doubt, where it is tested and what is found there is known and wrong, or unknown
+  violated-is : (t s : ℕ) → checks .violated s t ≡ (tested c tr s t && (knownP c (tr t) && wrong s t))
+  unfolding triggerChecks compared
+  violated-is t s = and-assoc (tested c tr s t) (knownP c (tr t)) (wrong s t)
+
+  known-same : (t : ℕ) (x : Bool) → ((s : ℕ) → T (current t s) → wrong s t ≡ x) → (s : ℕ) → T (current t s) → (knownP c (tr t) && wrong s t) ≡ (knownP c (tr t) && x)
+  known-same t x same s h = rw (same s h) refl
+
+  failure-law : (t : ℕ) (x : Bool) → ((s : ℕ) → T (current t s) → wrong s t ≡ x)
+      → fails checks t ≡ (enabled (tr t) && (ltb 0 (left-before t) || accepted checks t) && leb (left-after t + c .min) (c .n) && knownP c (tr t) && x)
+  unfolding fails
+  failure-law t x same =
+      some-ext (suc t) (λ s. accepted checks s && checks .violated s t) (λ s. accepted checks s && (tested c tr s t && (knownP c (tr t) && wrong s t)))
+      (λ s l. rw (violated-is t s) refl)
+      ∙ some-tested t (λ s. knownP c (tr t) && wrong s t) (knownP c (tr t) && x) (known-same t x same)
+      ∙ sym (and-assoc (enabled (tr t) && (ltb 0 (left-before t) || accepted checks t) && leb (left-after t + c .min) (c .n)) (knownP c (tr t)) x)
+
+  doubt-law : (t : ℕ)
+      → doubts checks t ≡ (enabled (tr t) && (ltb 0 (left-before t) || accepted checks t) && leb (left-after t + c .min) (c .n) && not (knownP c (tr t)))
+  unfolding doubts triggerChecks
+  doubt-law t = some-tested t (λ s. not (knownP c (tr t))) (not (knownP c (tr t))) (λ s h. refl)
 
   -- the start of the window that t is in: the one that the cycles left give, or t itself where none is left
   abbrev pub started : ℕ → ℕ → Bool
@@ -220,19 +240,21 @@ module _ (c : Config) (tr : Trace) (wrong : ℕ → ℕ → Bool) where
     -- the check from s is violated in t
     violated-step : (x : Bool) → ((s : ℕ) → T (current t s) → wrong s t ≡ x) → (s : ℕ)
         → (accepted checks s && checks .violated s t) ≡ (started t s && trackedMarks c w (tr t) (left-before t) x .failure)
-    unfolding trackedMarks tests opens pends
+    unfolding trackedMarks compares tests opens pends
     violated-step x same s =
         let fired = ltb 0 (left-before t) || triggered c w (tr t) in
         let late = leb (after c w (tr t) (left-before t) + c .min) (c .n) in
-        violated-law t x same s
+        let y = knownP c (tr t) && x in
+        ap (λ (b : Bool). accepted checks s && b) (violated-is t s) ∙ tested-law t (λ i. knownP c (tr t) && wrong i t) y (known-same t x same) s
         ∙ rw (current-is t s, accepted-step, after-step, none)
-        (and-assoc (started t s) fired (enabled (tr t) && late && x) ∙ ap (λ (b : Bool). started t s && b) (enabled-first fired (enabled (tr t)) late x))
+        (and-assoc (started t s) fired (enabled (tr t) && late && y)
+        ∙ ap (λ (b : Bool). started t s && b) (enabled-first fired (enabled (tr t)) late y ∙ sym (and-assoc (enabled (tr t) && fired && late) (knownP c (tr t)) x)))
 
     marks-step : (x : Bool) → ((s : ℕ) → T (current t s) → wrong s t ≡ x)
-        → windowMarks (fails checks t) (accepted checks t) (windowEnds c tr checks t) ≡ trackedMarks c w (tr t) (left-before t) x
-    unfolding trackedMarks tests opens pends
+        → windowMarks (fails checks t) (accepted checks t) (windowEnds c tr checks t) (doubts checks t) ≡ trackedMarks c w (tr t) (left-before t) x
+    unfolding trackedMarks compares tests opens pends
     marks-step x same =
-        rw (failure-law t x same, closed-law t, accepted-step, after-step, none) refl
+        rw (failure-law t x same, doubt-law t, closed-law t, accepted-step, after-step, none) refl
 
 -- ---- kind 7
 
@@ -390,9 +412,9 @@ module _ (c : Config) (tr : Trace) (k : family (c .kind) ≡ stability) (high : 
 
   -- no reference was taken before the trigger
   none-before : (s t : ℕ) → t ≤ s → hasReference c tr s t ≡ false
-  unfolding hasReference tested inWindow triggerPending
+  unfolding hasReference compared tested inWindow triggerPending
   none-before s t h =
-      some-none t (tested c tr s) (λ u l. rw (ne-eqb s u (omega arith), le-ltb s u (omega arith)) (simp (and-false (enabled (tr u)))))
+      some-none t (compared c tr s) (λ u l. rw (ne-eqb s u (omega arith), le-ltb s u (omega arith)) (simp (and-false (enabled (tr u)))))
 
   start-parts : (t : ℕ) → T (accepted stable t) → Parts t t
   start-parts t a =
@@ -468,12 +490,16 @@ module _ (c : Config) (tr : Trace) (k : family (c .kind) ≡ stability) (high : 
       rw (p .none-is, ← accepted-step c tr unstable t w (p .none-is)) (open-current c tr unstable t s h) in
       rw (i, from c tr unstable t s h, o, p .left-is, after-step c tr unstable t w (p .none-is)) refl
 
+  compared-step : (t s : ℕ) → T (current c tr unstable t s) → compared c tr s t ≡ compares c (goingBefore c tr t) (tr t) (leftIn (goingBefore c tr t))
+  unfolding compared compares
+  compared-step t s h = rw (tested-step t s h) refl
+
   -- what the window from s holds after t
   kept-step : (t s : ℕ) → T (current c tr unstable t s) → kept s (suc t) ≡ held c (goingBefore c tr t) (tr t)
   unfolding held hasReference reference some atFirst
   kept-step t s h =
       let q = current-parts t s h in
-      rw (q .holds-is, ← tested-step t s h) (by (hasReference c tr s t) (tested c tr s t) (q .reference-is))
+      rw (q .holds-is, ← compared-step t s h) (by (hasReference c tr s t) (compared c tr s t) (q .reference-is))
     where
       w : ℕ
       w = goingBefore c tr t

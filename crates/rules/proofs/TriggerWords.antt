@@ -1,7 +1,7 @@
--- Kinds 7 and 8: the words that traces leave are the possible ones. The cycles left are at most max. A window of kind 8 without a reference has seen no enabled cycle
--- from s+min on, so min is not 0, since the trigger's own cycle is enabled; and one with a reference has taken it in s+min or later, so that at most max−min
--- cycles are left. With a trigger in cycle 0 only and no reset, max − t cycles are left after cycle t; there is no reference where no later cycle is enabled, and it
--- is any value where each is and P holds that. Where P has one value in all cycles, of kind 7 the expected one, nothing fails. Assumes nothing.
+-- Kinds 7 and 8: the words that traces leave are the possible ones. The cycles left are at most max. A window of kind 8 that has a reference has taken it in s+min or
+-- later, so that at most max−min cycles are left. With a trigger in cycle 0 only and no reset, max − t cycles are left after cycle t; there is no reference where P is
+-- unknown in each cycle, and it is any value where P holds that. Where P has one value in all cycles, of kind 7 the expected one, or is unknown, nothing fails. Assumes
+-- nothing.
 use Prim.Native.Nat.{ℕ, zero, suc, _+_, _-_, _^_, _<_, _≤_}
 use mathlib.Core.Path.{_≡_, refl, sym, ap, subst, subst⁻¹, _∙_}
 use mathlib.Core.Bool.{Bool, true, false, not, _&&_, _||_, cond, and-false}
@@ -9,24 +9,24 @@ use mathlib.Core.Logic.{⊎-elim}
 use native.Mathlib.Nat.{eq-zero-or-pos}
 use native.Mathlib.Omega.{arith}
 use lib.Dec.{T, leb, ltb, eqb, leb→le, le→leb, lt→ltb, ltb→lt, eqb→eq, lit<}
-use borrow.Author.Tests.{le-leb, lt-leb, ltb-false, eq-eqb, ne-eqb, eqb-true, eqb-false}
+use borrow.Author.Tests.{le-leb, ltb-false, eq-eqb, ne-eqb, eqb-true, eqb-false}
 use Rattle.bits.specs.Bits.{bit, toBit, some}
 use Rattle.bus.specs.Range.{width, within}
 use lib.Pow.{pow-pos}
-use Rattle.bits.proofs.Tests.{is-true, is-false, of-true, of-false, either, and-intro, and-left, and-right, or-left, or-right, or-cases, some-intro, some-elim, some-none, every-intro}
+use Rattle.bits.proofs.Tests.{is-true, is-false, of-true, either, and-intro, and-left, and-right, or-left, or-right, or-cases, some-intro, some-elim, some-none, every-intro}
 use Rattle.bus.proofs.Wires.{wiresFor, wires-small, value-wires, value-zero, value-lt, one-fits}
 use Rattle.rules.specs.declared.config.Config.{Config}
 use Rattle.rules.specs.declared.frame.Frame.{Frame}
 use Rattle.rules.specs.Config.{family, maxWindow}
 use Rattle.rules.specs.Config.Family.{value, stability}
-use Rattle.rules.specs.Frame.{Trace, Proper, sample, up, enabled, P, Q}
+use Rattle.rules.specs.Frame.{Trace, Proper, sample, up, enabled, P, Q, knownP}
 use Rattle.rules.specs.Checks.{accepted, busy, fails}
 use Rattle.rules.specs.Window.{between, atFirst}
-use Rattle.rules.specs.Trigger.{withReference, triggerSeen, triggerPending, inWindow, tested, triggerChecks, hasReference, reference, stabilityChecks}
+use Rattle.rules.specs.Trigger.{withReference, triggerSeen, triggerPending, inWindow, tested, compared, triggerChecks, hasReference, reference, stabilityChecks}
 use Rattle.rules.specs.Rules.{Marks, marksOf, goingWord, goingBefore, failing, goingRow}
-use Rattle.rules.specs.Step.{leftIn, holds, referenceIn, pends, triggered, opens, after, tests, trackedMarks, stepMarksOf, goingStepRow}
+use Rattle.rules.specs.Step.{leftIn, holds, referenceIn, pends, triggered, opens, after, tests, compares, trackedMarks, stepMarksOf, goingStepRow}
 use Rattle.rules.specs.Possible.{withoutReference, withAReference, possibleOf, goingPossible, LeftPassing}
-use Rattle.rules.proofs.Frames.{frameOf, frame-proper, zero-left, FailsNext}
+use Rattle.rules.proofs.Frames.{frameOf, frameWith, frame-proper, with-proper, known-value, zero-left, FailsNext}
 use Rattle.rules.proofs.Good.{possible-are}
 use Rattle.rules.proofs.Rows.{row-passes, step-fails, step-passes}
 use Rattle.rules.proofs.Windows.{live-range, live-count, low}
@@ -74,29 +74,19 @@ module _ (c : Config) (tr : Trace) (k : family (c .kind) ≡ stability) (high : 
   abbrev wrong : ℕ → ℕ → Bool
   wrong = unstable c tr k high
 
-  -- the trigger's own cycle is tested where min is 0, so that there is a reference
-  own-cycle : (t s : ℕ) → T (alive c tr wrong (suc t) s) → c .min ≡ 0 → T (hasReference c tr s (suc t))
-  unfolding hasReference tested inWindow triggerSeen
-  own-cycle t s p z =
-      let checks = triggerChecks c tr wrong in
-      let a : T (triggerSeen c tr s && not (busy checks s)) =
-      subst T (trigger-accepted c tr wrong s) (and-left (accepted checks s) (checks .pending s (suc t)) p) in
-      let seen = and-left (enabled (tr s)) (eqb (Q c (tr s)) 1) (and-left (triggerSeen c tr s) (not (busy checks s)) a) in
-      some-intro (suc t) (tested c tr s) s (live-range checks tr (c .n) (windowed c tr wrong) (suc t) s p .0)
-      (rw (is-true (enabled (tr s)) seen, eq-eqb s s refl, z) (le→leb (s + 0) s (omega arith)))
-
   -- a reference was taken from s+min on
   taken : (t s : ℕ) → T (hasReference c tr s (suc t)) → s + c .min ≤ t
-  unfolding hasReference tested
+  unfolding hasReference compared tested
   taken t s h =
-      let r = some-elim (suc t) (tested c tr s) h in
-      let from = leb→le (s + c .min) (r .at) (and-right (enabled (tr (r .at)) && inWindow c tr s (r .at)) (leb (s + c .min) (r .at)) (r .holds)) in
+      let r = some-elim (suc t) (compared c tr s) h in
+      let was = and-left (tested c tr s (r .at)) (knownP c (tr (r .at))) (r .holds) in
+      let from = leb→le (s + c .min) (r .at) (and-right (enabled (tr (r .at)) && inWindow c tr s (r .at)) (leb (s + c .min) (r .at)) was) in
       omega (arith, r .low)
 
   reference-below : (s t : ℕ) → reference c tr s t < 2 ^ width (c .p)
   unfolding reference
   reference-below s t =
-      first-below t (tested c tr s) (λ u. P c (tr u)) (2 ^ width (c .p)) (pow-pos (width (c .p))) (λ u. value-lt (c .p) (sample (tr u) 1))
+      first-below t (compared c tr s) (λ u. P c (tr u)) (2 ^ width (c .p)) (pow-pos (width (c .p))) (λ u. value-lt (c .p) (sample (tr u) 1))
 
   word-possible : (t s : ℕ) → T (alive c tr wrong (suc t) s) → (b : Bool) → hasReference c tr s (suc t) ≡ b → T (possibleOf stability c (goingWord c tr t))
   unfolding possibleOf goingBefore withoutReference
@@ -114,13 +104,9 @@ module _ (c : Config) (tr : Trace) (k : family (c .kind) ≡ stability) (high : 
       let l = stable-before c tr k high (suc t) in
       let w : goingWord c tr t ≡ l + 0 = word-pending c tr k high (suc t) s p ∙ rw h refl in
       let z : goingWord c tr t ≡ l = omega (arith, w) in
-      let positive : 0 < c .min =
-      ⊎-elim (λ (e : c .min ≡ 0). absurd (of-false h (own-cycle t s p e))) (λ (m : 0 < c .min). m) (eq-zero-or-pos (c .min)) in
       rw z
       (or-left (eqb l 0 || withoutReference c l) (withAReference c l)
-      (or-right (eqb l 0) (withoutReference c l)
-      (and-intro (ltb 0 (c .min)) (leb l (c .n)) (lt→ltb 0 (c .min) positive)
-      (le→leb l (c .n) (low (triggerChecks c tr wrong) tr (c .n) (windowed c tr wrong) (suc t))))))
+      (or-right (eqb l 0) (withoutReference c l) (le→leb l (c .n) (low (triggerChecks c tr wrong) tr (c .n) (windowed c tr wrong) (suc t)))))
 
   pub stability-possible : (t : ℕ) → T (possibleOf stability c (goingWord c tr t))
   unfolding possibleOf goingBefore busy
@@ -146,7 +132,7 @@ word-parts c w k high h =
     ⊎-elim
     (λ (o : T (eqb w 0 || withoutReference c w)).
     ⊎-elim (λ (e : T (eqb w 0)). small (omega (arith, eqb→eq w 0 e)))
-    (λ (b : T (ltb 0 (c .min) && leb w (c .n))). small (leb→le w (c .n) (and-right (ltb 0 (c .min)) (leb w (c .n)) b)))
+    (λ (b : T (withoutReference c w)). small (leb→le w (c .n) b))
     (or-cases (eqb w 0) (withoutReference c w) o))
     (λ (o : T (withAReference c w)).
     let l = leftIn w in
@@ -164,15 +150,28 @@ word-parts c w k high h =
 
 -- ---- a trace for each possible word
 
--- a trigger in cycle 0 only, the tracked value x, and the reset words `control`
-once : Config → (ℕ → ℕ) → ℕ → Trace
-once c control x t = frameOf (control t) (wiresFor (c .p) x) (wiresFor (c .q) (toBit (eqb t 0))) 0
+-- a trigger in cycle 0 only, and P with the value x and the unknown wires u; each cycle is enabled
+once : Config → ℕ → ℕ → Trace
+once c x u t = frameWith 3 (wiresFor (c .p) x) (wiresFor (c .q) (toBit (eqb t 0))) 0 u
 
-module _ (c : Config) (control : ℕ → ℕ) (x : ℕ) (g : T (within (c .q))) (v : width (c .q) ≡ 1) where
+once-proper : (c : Config) (x u : ℕ) → u < 2 ^ 32 → (t : ℕ) → Proper (once c x u t)
+unfolding once
+once-proper c x u h t =
+    with-proper 3 (wiresFor (c .p) x) (wiresFor (c .q) (toBit (eqb t 0))) 0 u (lit< tt) (wires-small (c .p) x) (wires-small (c .q) (toBit (eqb t 0))) (lit< tt) h
+
+module _ (c : Config) (x u : ℕ) where
   abbrev tr : Trace
-  tr = once c control x
+  tr = once c x u
 
-  module _ (running : (t : ℕ) → up (tr t) ≡ true) (on : enabled (tr 0) ≡ true) (wrong : ℕ → ℕ → Bool) where
+  running : (t : ℕ) → up (tr t) ≡ true
+  unfolding up bit once
+  running t = refl
+
+  on : (t : ℕ) → enabled (tr t) ≡ true
+  unfolding enabled up bit once
+  on t = refl
+
+  module _ (g : T (within (c .q))) (v : width (c .q) ≡ 1) (wrong : ℕ → ℕ → Bool) where
     first-pending : (t : ℕ) → 0 < t → t ≤ c .n → T (triggerPending c tr 0 t)
     unfolding triggerPending between
     first-pending t z h =
@@ -188,7 +187,7 @@ module _ (c : Config) (control : ℕ → ℕ) (x : ℕ) (g : T (within (c .q))) 
     first-accepted : T (accepted (triggerChecks c tr wrong) 0)
     unfolding triggerSeen busy some once
     first-accepted =
-        rw (trigger-accepted c tr wrong 0, on, value-wires (c .q) 1 g (rw v (lit< tt))) tt
+        rw (trigger-accepted c tr wrong 0, on 0, known-value (c .q) (wiresFor (c .q) 1) 1 (value-wires (c .q) 1 g (rw v (lit< tt)))) tt
 
     first-alive : (t : ℕ) → t < c .n → T (alive c tr wrong (suc t) 0)
     unfolding triggerChecks
@@ -198,90 +197,75 @@ module _ (c : Config) (control : ℕ → ℕ) (x : ℕ) (g : T (within (c .q))) 
     left-first : (t : ℕ) → t < c .n → left-before c tr wrong (suc t) ≡ c .n - t
     left-first t l = omega (arith, live-count (triggerChecks c tr wrong) tr (c .n) (windowed c tr wrong) (suc t) 0 (first-alive t l))
 
-once-proper : (c : Config) (control : ℕ → ℕ) (x : ℕ) → ((t : ℕ) → control t < 2 ^ 32) → (t : ℕ) → Proper (once c control x t)
-unfolding once
-once-proper c control x h t =
-    frame-proper (control t) (wiresFor (c .p) x) (wiresFor (c .q) (toBit (eqb t 0))) 0 (h t) (wires-small (c .p) x) (wires-small (c .q) (toBit (eqb t 0))) (lit< tt)
-
--- reset_n 1, and enable 1 in each cycle, or in cycle 0 only
-always : ℕ → ℕ
-always t = 3
-
-first-only : ℕ → ℕ
-first-only zero = 3
-first-only (suc t) = 1
-
-first-up : (c : Config) (x t : ℕ) → up (once c first-only x t) ≡ true
-unfolding up bit once first-only
-first-up c x zero = refl
-first-up c x (suc t) = refl
-
-first-small : (t : ℕ) → first-only t < 2 ^ 32
-unfolding first-only
-first-small zero = lit< tt
-first-small (suc t) = lit< tt
-
 -- the word 0 is left, and any other for which there is a trace
 or-zero : (c : Config) (w : ℕ) → (0 < w → LeftPassing c w) → LeftPassing c w
 or-zero c zero h = zero-left c
 or-zero c (suc w) h = h (omega arith)
 
--- ---- nothing fails where P has one value
+-- ---- nothing fails where P has one value, or is unknown
 
-module _ (c : Config) (control : ℕ → ℕ) (x : ℕ) (w : T (within (c .p))) (f : x < 2 ^ width (c .p)) where
-  same : (t : ℕ) → P c (once c control x t) ≡ x
+stability-passes : (c : Config) (tr : Trace) → family (c .kind) ≡ stability
+    → ((s t : ℕ) → (compared c tr s t && (hasReference c tr s t && not (eqb (P c (tr t)) (reference c tr s t)))) ≡ false)
+    → (t : ℕ) → failing (goingRow c tr t) ≡ false
+unfolding marksOf fails stabilityChecks triggerChecks
+stability-passes c tr k h t =
+    row-passes c tr t stability k
+    (some-none (suc t) (λ s. accepted (stabilityChecks c tr) s && stabilityChecks c tr .violated s t)
+    (λ s l. rw (h s t) (and-false (accepted (stabilityChecks c tr) s))))
+    refl
+
+module _ (c : Config) (x : ℕ) (w : T (within (c .p))) (f : x < 2 ^ width (c .p)) where
+  abbrev steady : Trace
+  steady = once c x 0
+
+  same : (t : ℕ) → P c (steady t) ≡ x
   unfolding once
-  same t = value-wires (c .p) x w f
+  same t = known-value (c .p) (wiresFor (c .p) x) x (value-wires (c .p) x w f)
 
-  value-passes : family (c .kind) ≡ value → x ≡ c .value → (t : ℕ) → failing (goingRow c (once c control x) t) ≡ false
+  known : (t : ℕ) → knownP c (steady t) ≡ true
+  unfolding once
+  known t = rw (value-zero (c .p)) refl
+
+  value-passes : family (c .kind) ≡ value → x ≡ c .value → (t : ℕ) → failing (goingRow c steady t) ≡ false
   unfolding stepMarksOf trackedMarks
   value-passes k e t =
-      let tr = once c control x in
-      let marks = value-marks c tr k t in
-      row-passes c tr t value k (ap (λ (m : Marks). m .failure) marks ∙ rw (same t, eq-eqb x (c .value) e) (and-false (tests c (goingBefore c tr t) (tr t) (goingBefore c tr t))))
+      let marks = value-marks c steady k t in
+      let before = goingBefore c steady t in
+      row-passes c steady t value k
+      (ap (λ (m : Marks). m .failure) marks ∙ rw (same t, eq-eqb x (c .value) e) (and-false (compares c before (steady t) before)))
       (ap (λ (m : Marks). m .illegal) marks)
 
   -- a reference is that value
-  stable : (s t : ℕ) → (hasReference c (once c control x) s t && not (eqb (P c (once c control x t)) (reference c (once c control x) s t))) ≡ false
+  stable : (s t : ℕ) → (compared c steady s t && (hasReference c steady s t && not (eqb (P c (steady t)) (reference c steady s t)))) ≡ false
   unfolding hasReference reference
   stable s t =
-      let tr = once c control x in
       ⊎-elim
-      (λ (h : some t (tested c tr s) ≡ true).
-      rw (h, same t, first-same t (tested c tr s) (λ u. P c (tr u)) x same (of-true h), eq-eqb x x refl) refl)
-      (λ (h : some t (tested c tr s) ≡ false). rw h refl) (either (some t (tested c tr s)))
-
-  stability-passes : family (c .kind) ≡ stability → (t : ℕ) → failing (goingRow c (once c control x) t) ≡ false
-  unfolding marksOf fails stabilityChecks triggerChecks
-  stability-passes k t =
-      let tr = once c control x in
-      row-passes c tr t stability k
-      (some-none (suc t) (λ s. accepted (stabilityChecks c tr) s && stabilityChecks c tr .violated s t)
-      (λ s l. rw (stable s t, and-false (tested c tr s t)) (and-false (accepted (stabilityChecks c tr) s))))
-      refl
+      (λ (h : some t (compared c steady s) ≡ true).
+      rw (h, same t, first-same t (compared c steady s) (λ u. P c (steady u)) x same (of-true h), eq-eqb x x refl) (and-false (compared c steady s t)))
+      (λ (h : some t (compared c steady s) ≡ false). rw h (and-false (compared c steady s t))) (either (some t (compared c steady s)))
 
 module _ (c : Config) (g : T (within (c .q))) (v : width (c .q) ≡ 1) (high : c .n ≤ maxWindow) (f : T (within (c .p))) where
   module _ (k : family (c .kind) ≡ value) (fits : c .value < 2 ^ width (c .p)) where
     pub value-left : (w : ℕ) → T (possibleOf value c w) → LeftPassing c w
-    unfolding possibleOf goingBefore always up enabled bit once
+    unfolding possibleOf goingBefore
     value-left w h =
         or-zero c w
         (λ z.
-        let tr = once c always (c .value) in
+        let tr = once c (c .value) 0 in
         let l = leb→le w (c .n) h in
         record {
           trace = tr;
           cycle = c .n - w;
           short = omega arith;
           early = λ _. omega arith;
-          proper = once-proper c always (c .value) (λ t. lit< tt);
-          leaves = value-word c tr k (suc (c .n - w)) ∙ left-first c always (c .value) g v (λ t. refl) refl (forbidden c tr k) (c .n - w) (omega arith) ∙ omega arith;
-          passes = λ t l. value-passes c always (c .value) f fits k refl t;
+          proper = once-proper c (c .value) 0 (lit< tt);
+          leaves = value-word c tr k (suc (c .n - w)) ∙ left-first c (c .value) 0 g v (forbidden c tr k) (c .n - w) (omega arith) ∙ omega arith;
+          passes = λ t l. value-passes c (c .value) f fits k refl t;
         })
 
     -- the tracked value is another in s+max
     pub value-fails : c .min ≤ c .n → FailsNext c
-    unfolding possibleOf zero-left stepMarksOf trackedMarks tests opens after triggered pends enabled up bit
+    unfolding possibleOf zero-left stepMarksOf trackedMarks compares tests opens after triggered pends enabled up bit
     value-fails low = ⊎-elim at-once later (eq-zero-or-pos (c .n))
       where
         other : ℕ
@@ -305,10 +289,10 @@ module _ (c : Config) (g : T (within (c .q))) (v : width (c .q) ≡ 1) (high : c
         frame-is = frame-proper 3 (wiresFor (c .p) other) (wiresFor (c .q) 1) 0 (lit< tt) (wires-small (c .p) other) (wires-small (c .q) 1) (lit< tt)
 
         trigger : Q c frame ≡ 1
-        trigger = value-wires (c .q) 1 g (rw v (lit< tt))
+        trigger = known-value (c .q) (wiresFor (c .q) 1) 1 (value-wires (c .q) 1 g (rw v (lit< tt)))
 
         tracked : P c frame ≡ other
-        tracked = value-wires (c .p) other f other-fits
+        tracked = known-value (c .p) (wiresFor (c .p) other) other (value-wires (c .p) other f other-fits)
 
         at-once : c .n ≡ 0 → FailsNext c
         at-once z = record {
@@ -317,7 +301,7 @@ module _ (c : Config) (g : T (within (c .q))) (v : width (c .q) ≡ 1) (high : c
           room = lit< tt;
           frame = frame;
           proper = frame-is;
-          fails = step-fails c 0 frame value k refl (rw (trigger, tracked, differs, le-leb (c .n + c .min) (c .n) (omega arith)) refl);
+          fails = step-fails c 0 frame value k refl (rw (trigger, tracked, differs, le-leb (c .n + c .min) (c .n) (omega arith), value-zero (c .p)) refl);
         }
 
         later : 0 < c .n → FailsNext c
@@ -327,66 +311,65 @@ module _ (c : Config) (g : T (within (c .q))) (v : width (c .q) ≡ 1) (high : c
           room = value-left 1 (le→leb 1 (c .n) p) .early (lit< tt);
           frame = frame;
           proper = frame-is;
-          fails = step-fails c 1 frame value k refl (rw (trigger, tracked, differs, le-leb (0 + c .min) (c .n) (omega arith)) refl);
+          fails = step-fails c 1 frame value k refl (rw (trigger, tracked, differs, le-leb (0 + c .min) (c .n) (omega arith), value-zero (c .p)) refl);
         }
 
   module _ (k : family (c .kind) ≡ stability) where
     abbrev few : c .n < 2 ^ 16
     few = omega arith
 
-    without-left : (w : ℕ) → 0 < c .min → w ≤ c .n → 0 < w → LeftPassing c w
-    unfolding goingBefore enabled up bit once first-only tested hasReference
-    without-left w m l z = record {
+    -- P is never known
+    without-left : (w : ℕ) → w ≤ c .n → 0 < w → LeftPassing c w
+    unfolding goingBefore once compared hasReference
+    without-left w l z = record {
       trace = tr₁;
       cycle = c .n - w;
       short = omega arith;
       early = λ _. omega arith;
-      proper = once-proper c first-only 0 first-small;
-      passes = λ t _. stability-passes c first-only 0 f (pow-pos (width (c .p))) k t;
-      leaves = word-pending c tr₁ k few (suc (c .n - w)) 0 (first-alive c first-only 0 g v (first-up c 0) refl wrong₁ (c .n - w) (omega arith))
-          ∙ rw (no-reference (suc (c .n - w)), left-first c first-only 0 g v (first-up c 0) refl wrong₁ (c .n - w) (omega arith)) (omega arith);
+      proper = once-proper c 0 (wiresFor (c .p) 1) (wires-small (c .p) 1);
+      passes = λ t _. stability-passes c tr₁ k (λ s t. rw (never s t) refl) t;
+      leaves = word-pending c tr₁ k few (suc (c .n - w)) 0 (first-alive c 0 (wiresFor (c .p) 1) g v wrong₁ (c .n - w) (omega arith))
+          ∙ rw (no-reference (suc (c .n - w)), left-first c 0 (wiresFor (c .p) 1) g v wrong₁ (c .n - w) (omega arith)) (omega arith);
     }
       where
         tr₁ : Trace
-        tr₁ = once c first-only 0
+        tr₁ = once c 0 (wiresFor (c .p) 1)
 
         wrong₁ : ℕ → ℕ → Bool
         wrong₁ = unstable c tr₁ k few
 
-        untested : (u : ℕ) → tested c tr₁ 0 u ≡ false
-        untested zero = rw (lt-leb (0 + c .min) 0 (omega arith)) (and-false (inWindow c tr₁ 0 0))
-        untested (suc u) = refl
+        never : (s t : ℕ) → compared c tr₁ s t ≡ false
+        never s t = rw (value-wires (c .p) 1 f (one-fits (c .p))) (and-false (tested c tr₁ s t))
 
         no-reference : (t : ℕ) → hasReference c tr₁ 0 t ≡ false
-        no-reference t = some-none t (tested c tr₁ 0) (λ u l. untested u)
+        no-reference t = some-none t (compared c tr₁ 0) (λ u l. never 0 u)
 
     with-left : (l r : ℕ) → 0 < l → l ≤ c .n - c .min → r < 2 ^ width (c .p) → LeftPassing c (l + withReference r)
-    unfolding goingBefore always up enabled bit once tested hasReference reference
+    unfolding goingBefore tested compared hasReference reference
     with-left l r z m fits = record {
       trace = tr₁;
       cycle = c .n - l;
       short = omega arith;
       early = λ _. omega arith;
-      proper = once-proper c always r (λ t. lit< tt);
-      passes = λ t _. stability-passes c always r f fits k t;
-      leaves = word-pending c tr₁ k few (suc (c .n - l)) 0 (first-alive c always r g v (λ t. refl) refl wrong₁ (c .n - l) (omega arith))
-          ∙ rw (is-true (hasReference c tr₁ 0 (suc (c .n - l))) taken, held, left-first c always r g v (λ t. refl) refl wrong₁ (c .n - l) (omega arith)) (omega arith);
+      proper = once-proper c r 0 (lit< tt);
+      passes = λ t _. stability-passes c tr₁ k (stable c r f fits) t;
+      leaves = word-pending c tr₁ k few (suc (c .n - l)) 0 (first-alive c r 0 g v wrong₁ (c .n - l) (omega arith))
+          ∙ rw (is-true (hasReference c tr₁ 0 (suc (c .n - l))) taken, held, left-first c r 0 g v wrong₁ (c .n - l) (omega arith)) (omega arith);
     }
       where
         tr₁ : Trace
-        tr₁ = once c always r
+        tr₁ = once c r 0
 
         wrong₁ : ℕ → ℕ → Bool
         wrong₁ = unstable c tr₁ k few
 
         taken : T (hasReference c tr₁ 0 (suc (c .n - l)))
         taken =
-            some-intro (suc (c .n - l)) (tested c tr₁ 0) (c .min) (omega arith)
-            (and-intro (inWindow c tr₁ 0 (c .min)) (leb (0 + c .min) (c .min)) (first-in c always r g v (λ t. refl) refl wrong₁ (c .min) (omega arith))
-            (le→leb (0 + c .min) (c .min) (omega arith)))
+            some-intro (suc (c .n - l)) (compared c tr₁ 0) (c .min) (omega arith)
+            (rw (on c r 0 (c .min), known c r f fits (c .min), is-true (inWindow c tr₁ 0 (c .min)) (first-in c r 0 g v wrong₁ (c .min) (omega arith)), le-leb (0 + c .min) (c .min) (omega arith)) tt)
 
         held : reference c tr₁ 0 (suc (c .n - l)) ≡ r
-        held = first-same (suc (c .n - l)) (tested c tr₁ 0) (λ u. P c (tr₁ u)) r (same c always r f fits) taken
+        held = first-same (suc (c .n - l)) (compared c tr₁ 0) (λ u. P c (tr₁ u)) r (same c r f fits) taken
 
     pub stability-left : (w : ℕ) → T (possibleOf stability c w) → LeftPassing c w
     unfolding possibleOf withoutReference withAReference
@@ -394,9 +377,7 @@ module _ (c : Config) (g : T (within (c .q))) (v : width (c .q) ≡ 1) (high : c
         ⊎-elim
         (λ (o : T (eqb w 0 || withoutReference c w)).
         ⊎-elim (λ (e : T (eqb w 0)). subst⁻¹ (LeftPassing c) (eqb→eq w 0 e) (zero-left c))
-        (λ (b : T (ltb 0 (c .min) && leb w (c .n))).
-        or-zero c w
-        (without-left w (ltb→lt 0 (c .min) (and-left (ltb 0 (c .min)) (leb w (c .n)) b)) (leb→le w (c .n) (and-right (ltb 0 (c .min)) (leb w (c .n)) b))))
+        (λ (b : T (withoutReference c w)). or-zero c w (without-left w (leb→le w (c .n) b)))
         (or-cases (eqb w 0) (withoutReference c w) o))
         (λ (o : T (withAReference c w)).
         let l = leftIn w in
@@ -412,7 +393,7 @@ module _ (c : Config) (g : T (within (c .q))) (v : width (c .q) ≡ 1) (high : c
 
     -- the reference is 0, and the tracked value 1 in s+max
     pub stability-fails : c .min < c .n → FailsNext c
-    unfolding stepMarksOf trackedMarks tests opens after triggered pends enabled up bit
+    unfolding stepMarksOf trackedMarks compares tests opens after triggered pends enabled up bit
     stability-fails low = record {
       word = 1 + withReference 0;
       left = with-left 1 0 (lit< tt) (omega arith) (pow-pos (width (c .p)));
@@ -420,14 +401,14 @@ module _ (c : Config) (g : T (within (c .q))) (v : width (c .q) ≡ 1) (high : c
       frame = frameOf 3 (wiresFor (c .p) 1) 0 0;
       proper = frame-proper 3 (wiresFor (c .p) 1) 0 0 (lit< tt) (wires-small (c .p) 1) (lit< tt) (lit< tt);
       fails = step-fails c (1 + withReference 0) (frameOf 3 (wiresFor (c .p) 1) 0 0) stability k refl
-          (rw (value-zero (c .q), value-wires (c .p) 1 f (one-fits (c .p)), le-leb (0 + c .min) (c .n) (omega arith)) refl);
+          (rw (value-zero (c .q), value-zero (c .p), known-value (c .p) (wiresFor (c .p) 1) 1 (value-wires (c .p) 1 f (one-fits (c .p))), le-leb (0 + c .min) (c .n) (omega arith)) refl);
     }
 
 -- kind 8 with min equal to max: there is no reference before s+max, so nothing fails
 pub stability-never : (c : Config) (w : ℕ) (f : Frame) → family (c .kind) ≡ stability → c .n ≤ maxWindow → c .min ≡ c .n → T (goingPossible c w)
     → failing (goingStepRow c w f) ≡ false
 unfolding stepMarksOf trackedMarks
-stability-never c w f k high e h = step-passes c w f stability k (rw none (and-false (tests c w f (leftIn w)))) refl
+stability-never c w f k high e h = step-passes c w f stability k (rw none (and-false (compares c w f (leftIn w)))) refl
   where
     none : holds w ≡ false
     none =

@@ -1,5 +1,5 @@
 -- Starts and the checks that they begin, for every kind at once. A kind says of a trace which cycles start a check, in which cycles a check is
--- pending, where it is violated, and whether a start is ignored while a check is pending (`Sequence`, `Time`, `Transition`, `Trigger`). Which starts are
+-- pending, where it is violated, where that cannot be told, and whether a start is ignored while a check is pending (`Sequence`, `Time`, `Transition`, `Trigger`). Which starts are
 -- accepted follows from that. Assumes nothing.
 use Prim.Native.Nat.{ℕ, zero, suc}
 use mathlib.Core.Bool.{Bool, false, not, _&&_}
@@ -14,6 +14,8 @@ pub record Checks : Type 0 where
   pub pending : ℕ → ℕ → Bool
   -- what the check from s requires is violated in cycle t, for s ≤ t: a check can be violated in the cycle where it starts
   pub violated : ℕ → ℕ → Bool
+  -- what the check from s requires in cycle t, for s ≤ t, cannot be told, since a bit of it is unknown: "neither pass nor failure"
+  pub doubtful : ℕ → ℕ → Bool
   -- a start is ignored in a cycle where an accepted check is pending
   pub ignores : Bool
 
@@ -38,3 +40,7 @@ module _ (k : Checks) where
   -- an accepted check is violated in cycle t
   unfoldable pub fails : ℕ → Bool
   fails t = some (suc t) (λ s. accepted s && k .violated s t)
+
+  -- an accepted check is in doubt in cycle t
+  unfoldable pub doubts : ℕ → Bool
+  doubts t = some (suc t) (λ s. accepted s && k .doubtful s t)

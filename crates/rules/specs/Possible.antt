@@ -1,5 +1,5 @@
--- Which open words are possible, the refusal of another to go on from, and how many checks one says are unfinished, from document 01 and document 02, §4
--- and §7. Assumes nothing.
+-- Which open words are possible, the refusal of another to go on from, and how many checks one says are unfinished, from document 01 and document 02, §4,
+-- §7 and §8. Assumes nothing.
 use Prim.Native.Nat.{ℕ, suc, _-_, _^_, _<_, _≤_}
 use mathlib.Core.Path.{_≡_}
 use mathlib.Core.Bool.{Bool, false, not, _&&_, _||_, cond}
@@ -13,9 +13,9 @@ use Rattle.rules.specs.Frame.{Trace, Proper}
 use Rattle.rules.specs.Rules.{goingRow, goingWord, failing, stoppedWord, word}
 use Rattle.rules.specs.Step.{leftIn, holds, referenceIn}
 
--- kind 8: 1 to max cycles left without a reference, where min is above 0; or 1 to max−min with a reference below 2^width(P)
+-- kind 8: 1 to max cycles left without a reference, for min 0 where the tracked value was unknown; or 1 to max−min with a reference below 2^width(P)
 unfoldable pub withoutReference : Config → ℕ → Bool
-withoutReference c w = ltb 0 (c .min) && leb w (c .n)
+withoutReference c w = leb w (c .n)
 
 unfoldable pub withAReference : Config → ℕ → Bool
 withAReference c w = holds w && (ltb 0 (leftIn w) && leb (leftIn w) (c .n - c .min)) && ltb (referenceIn w) (2 ^ width (c .p))

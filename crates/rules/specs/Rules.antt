@@ -1,4 +1,4 @@
--- The row and the open word of every cycle of a trace, from document 01, "Seven checkers", and document 02, §4 and §7. Assumes nothing.
+-- The row and the open word of every cycle of a trace, from document 01, "Seven checkers", and document 02, §4, §7 and §8. Assumes nothing.
 use Prim.Native.Nat.{ℕ, zero, suc, _+_, _*_, _^_}
 use mathlib.Core.Bool.{Bool, false, _&&_, _||_, cond}
 use lib.Dec.{eqb}
@@ -7,53 +7,59 @@ use Rattle.rules.specs.declared.config.Config.{Config}
 use Rattle.rules.specs.Config.{Family, family, fatal}
 use Rattle.rules.specs.Config.Family.{sequence, time, transition, value, stability, none}
 use Rattle.rules.specs.Frame.{Trace, up}
-use Rattle.rules.specs.Checks.{Checks, accepted, fails}
+use Rattle.rules.specs.Checks.{Checks, accepted, fails, doubts}
 use Rattle.rules.specs.Sequence.{sequenceChecks, mostSeen, attempts}
 use Rattle.rules.specs.Time.{timeChecks, windowOpened, windowReset, illegalStart, windowClosed, cyclesLeft}
 use Rattle.rules.specs.Transition.{transitionChecks, stored}
 use Rattle.rules.specs.Trigger.{valueChecks, stabilityChecks, windowEnds, valueLeft, stabilityLeft}
 
--- "A row holds a cycle's marks, summed: 1 failure; 2 illegal start; 4 trigger, window opened, or start state seen; 8 window closed; 16 window reset."
+-- "A row holds a cycle's marks, summed: 1 failure; 2 illegal start; 4 trigger, window opened, or start state seen; 8 window closed; 16 window reset." §8:
+-- an unknown bit in a tested value "sets the new mark 32".
 pub record Marks : Type 0 where
   pub failure : Bool
   pub illegal : Bool
   pub opened : Bool
   pub closed : Bool
   pub restarted : Bool
+  pub unknown : Bool
 
 -- how many marks there are: bit i of a row is the i-th of them
 abbrev pub marks : ℕ
-marks = 5
+marks = 6
 
 unfoldable pub rowOf : Marks → ℕ
-rowOf m = 1 * toBit (m .failure) + 2 * toBit (m .illegal) + 4 * toBit (m .opened) + 8 * toBit (m .closed) + 16 * toBit (m .restarted)
+rowOf m =
+    1 * toBit (m .failure) + 2 * toBit (m .illegal) + 4 * toBit (m .opened) + 8 * toBit (m .closed) + 16 * toBit (m .restarted) + 32 * toBit (m .unknown)
 
--- the marks of a cycle where a check can fail and one can be opened, and nothing else
-abbrev pub checkMarks : Bool → Bool → Marks
-checkMarks failure opened = record { failure = failure; illegal = false; opened = opened; closed = false; restarted = false }
+-- the marks of a cycle where a check can fail or be in doubt and one can be opened, and nothing else
+abbrev pub checkMarks : Bool → Bool → Bool → Marks
+checkMarks failure opened unknown = record { failure = failure; illegal = false; opened = opened; closed = false; restarted = false; unknown = unknown }
 
 -- the marks of a cycle where also a window can be closed: "Marks are 1, 4 at the trigger, 8 at s+max."
-abbrev pub windowMarks : Bool → Bool → Bool → Marks
-windowMarks failure opened closed = record { failure = failure; illegal = false; opened = opened; closed = closed; restarted = false }
+abbrev pub windowMarks : Bool → Bool → Bool → Bool → Marks
+windowMarks failure opened closed unknown = record { failure = failure; illegal = false; opened = opened; closed = closed; restarted = false; unknown = unknown }
 
 abbrev pub triggerMarks : Checks → Config → Trace → ℕ → Marks
-triggerMarks k c tr t = windowMarks (fails k t) (accepted k t) (windowEnds c tr k t)
+triggerMarks k c tr t = windowMarks (fails k t) (accepted k t) (windowEnds c tr k t) (doubts k t)
 
--- The marks that a family's rules give for a cycle out of reset. Mark 1 in every family: some accepted start has its required check violated there.
+-- The marks that a family's rules give for a cycle out of reset. Mark 1 in every family: some accepted start has its required check violated there. Mark
+-- 32: some accepted start has it in doubt, for one reason or for several.
 unfoldable pub marksOf : Family → Config → Trace → ℕ → Marks
 marksOf sequence c tr t =
     checkMarks (fails (sequenceChecks c tr) t) (cond (eqb (c .kind) 0) (mostSeen c tr t) (accepted (sequenceChecks c tr) t))
+    (doubts (sequenceChecks c tr) t)
 marksOf time c tr t = record {
   failure = fails (timeChecks c tr) t;
   illegal = illegalStart c tr t;
   opened = windowOpened c tr t;
   closed = windowClosed c tr t;
   restarted = windowReset c tr t;
+  unknown = doubts (timeChecks c tr) t;
 }
-marksOf transition c tr t = checkMarks (fails (transitionChecks c tr) t) (accepted (transitionChecks c tr) t)
+marksOf transition c tr t = checkMarks (fails (transitionChecks c tr) t) (accepted (transitionChecks c tr) t) (doubts (transitionChecks c tr) t)
 marksOf value c tr t = triggerMarks (valueChecks c tr) c tr t
 marksOf stability c tr t = triggerMarks (stabilityChecks c tr) c tr t
-marksOf none c tr t = checkMarks false false
+marksOf none c tr t = checkMarks false false false
 
 -- "The open word says what is unfinished after a cycle."
 unfoldable pub openOf : Family → Config → Trace → ℕ → ℕ
@@ -80,7 +86,7 @@ goingBefore c tr (suc t) = goingWord c tr t
 
 -- ---- any checker
 
--- a row "with mark 1 or 2", whatever its other bits are
+-- a row "with mark 1 or 2", whatever its other bits are: "Mark 32 is no failure"
 unfoldable pub failing : ℕ → Bool
 failing row = bit row 0 || bit row 1
 

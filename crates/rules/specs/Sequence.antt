@@ -1,11 +1,19 @@
--- Kinds 0 to 2, from document 01, "Cycle sequence". Assumes nothing.
+-- Kinds 0 to 2, from document 01, "Cycle sequence", and document 02, §8. Assumes nothing.
 use Prim.Native.Nat.{ℕ, suc, _+_, _-_}
 use mathlib.Core.Bool.{Bool, not, _&&_, _||_}
 use lib.Dec.{leb, ltb, eqb}
 use Rattle.bits.specs.Bits.{bit, some, every, number}
 use Rattle.rules.specs.declared.config.Config.{Config}
-use Rattle.rules.specs.Frame.{Trace, up, P}
+use Rattle.rules.specs.declared.frame.Frame.{Frame}
+use Rattle.rules.specs.Frame.{Trace, up, P, unknownP}
 use Rattle.rules.specs.Checks.{Checks, accepted}
+
+-- event bit i is known to be 0, and is unknown
+unfoldable pub eventMissed : Config → Frame → ℕ → Bool
+eventMissed c f i = not (bit (P c f) i) && not (bit (unknownP c f) i)
+
+unfoldable pub eventUnknown : Config → Frame → ℕ → Bool
+eventUnknown c f i = bit (unknownP c f) i
 
 module _ (c : Config) (tr : Trace) where
   -- event bit i is 1 in cycle t, which is out of reset
@@ -21,15 +29,21 @@ module _ (c : Config) (tr : Trace) where
   unfoldable pub attemptTested : ℕ → ℕ → Bool
   attemptTested s t = ltb (t - s) (c .n) && alive s (t - s)
 
+  -- In cycle t the attempt from s is tested on an event bit that is found to be so, where that has a mark: "Kinds 1 and 2 fail at s+j […] when the attempt was alive
+  -- through s+j−1 and bit n−1−j is 0. Kind 0 fails only for j = n−1"; and "For kind 0 an unknown bit before the last event reads as 0, without mark".
+  unfoldable pub attemptFinds : (Frame → ℕ → Bool) → ℕ → ℕ → Bool
+  attemptFinds found s t =
+      up (tr t) && attemptTested s t && found (tr t) (c .n - 1 - (t - s)) && (not (eqb (c .kind) 0) || eqb (t - s) (c .n - 1))
+
   -- "An attempt starts at s when event bit n−1 is 1." "Kinds 0 and 1 accept every start. Kind 2 ignores a start in any cycle where an accepted attempt
-  -- alive through the cycle before is still being tested, also its last cycle and also the cycle where it fails". "Kinds 1 and 2 fail at s+j […] when
-  -- the attempt was alive through s+j−1 and bit n−1−j is 0. Kind 0 fails only for j = n−1."
+  -- alive through the cycle before is still being tested, also its last cycle and also the cycle where it fails". "An unknown
+  -- start or trigger bit, or one in a start comparison, is no start." "An unknown bit in a tested value is neither pass nor failure", and "ends that sequence attempt", which is then not alive.
   unfoldable pub sequenceChecks : Checks
   sequenceChecks = record {
     starts = λ s. event (c .n - 1) s;
     pending = attemptTested;
-    violated = λ s t.
-        up (tr t) && attemptTested s t && not (bit (P c (tr t)) (c .n - 1 - (t - s))) && (not (eqb (c .kind) 0) || eqb (t - s) (c .n - 1));
+    violated = attemptFinds (eventMissed c);
+    doubtful = attemptFinds (eventUnknown c);
     ignores = eqb (c .kind) 2;
   }
 

@@ -9,7 +9,10 @@ use Rattle.rules.specs.declared.config.Config.{Config}
 use Rattle.rules.specs.declared.frame.Frame.{Frame}
 use Rattle.rules.specs.Config.{Family, family, fatal}
 use Rattle.rules.specs.Config.Family.{sequence, time, transition, value, stability, none}
-use Rattle.rules.specs.Frame.{up, enabled, P, Q, R}
+use Rattle.rules.specs.Frame.{up, enabled, P, Q, R, knownP, knownR}
+use Rattle.rules.specs.Sequence.{eventMissed, eventUnknown}
+use Rattle.rules.specs.Time.{testMissed, testUnknown}
+use Rattle.rules.specs.Transition.{startState}
 use Rattle.rules.specs.Trigger.{withReference}
 use Rattle.rules.specs.Rules.{Marks, checkMarks, windowMarks, rowOf, failing, stoppedWord}
 
@@ -35,11 +38,9 @@ module _ (c : Config) (w : ℕ) (f : Frame) where
   attempt zero = startsAttempt
   attempt (suc j) = bit w j && bit (P c f) (c .n - 1 - suc j)
 
-  -- an attempt that did not have its event: kind 0 looks at the oldest alone
-  unfoldable pub attemptFails : Bool
-  attemptFails =
-      cond (eqb (c .kind) 0) (bit w (c .n - 2) && not (bit (P c f) 0))
-      (some (c .n - 1) (λ j. bit w j && not (bit (P c f) (c .n - 1 - suc j))))
+  -- an attempt whose event is found to be so, known to be 0 or unknown: kind 0 looks at the oldest alone
+  unfoldable pub attemptOn : (Frame → ℕ → Bool) → Bool
+  attemptOn found = cond (eqb (c .kind) 0) (bit w (c .n - 2) && found f 0) (some (c .n - 1) (λ j. bit w j && found f (c .n - 1 - suc j)))
 
   -- ---- time: the open word is the number of pending cycles left, this one included
 
@@ -72,33 +73,41 @@ module _ (c : Config) (w : ℕ) (f : Frame) where
   unfoldable pub tests : ℕ → Bool
   tests before = enabled f && opens && leb (after before + c .min) (c .n)
 
+  -- and its value is compared, where it is known
+  unfoldable pub compares : ℕ → Bool
+  compares before = tests before && knownP c f
+
   unfoldable pub trackedMarks : ℕ → Bool → Marks
-  trackedMarks before wrong = windowMarks (tests before && wrong) triggered (opens && eqb (after before) 0)
+  trackedMarks before wrong =
+      windowMarks (compares before && wrong) triggered (opens && eqb (after before) 0) (tests before && not (knownP c f))
 
   -- what a window of kind 8 holds after this cycle
   unfoldable pub held : ℕ
-  held = cond (holds w) (withReference (referenceIn w)) (cond (tests (leftIn w)) (withReference (P c f)) 0)
+  held = cond (holds w) (withReference (referenceIn w)) (cond (compares (leftIn w)) (withReference (P c f)) 0)
 
   -- ---- all kinds
 
   unfoldable pub stepMarksOf : Family → Marks
-  stepMarksOf sequence = checkMarks attemptFails (cond (eqb (c .kind) 0) (attempt (c .n - 2)) startsAttempt)
+  stepMarksOf sequence =
+      checkMarks (attemptOn (eventMissed c)) (cond (eqb (c .kind) 0) (attempt (c .n - 2)) startsAttempt) (attemptOn (eventUnknown c))
   stepMarksOf time = record {
-    failure = pends && not (eqb (Q c f) 1) && not restart;
+    failure = pends && testMissed c f && not restart;
     illegal = eqb (c .kind) 5 && start && pends;
     opened = (start && not pends) || restart;
     closed = eqb w 1 && not restart;
     restarted = restart;
+    unknown = pends && testUnknown c f && not restart;
   }
-  stepMarksOf transition = checkMarks (pends && not (eqb (P c f) (w - 2 ^ 32))) (eqb (P c f) (Q c f))
+  stepMarksOf transition =
+      checkMarks (pends && (knownP c f && not (eqb (P c f) (w - 2 ^ 32)))) (startState c f) ((pends && not (knownP c f)) || (startState c f && not (knownR c f)))
   stepMarksOf value = trackedMarks w (not (eqb (P c f) (c .value)))
   stepMarksOf stability = trackedMarks (leftIn w) (holds w && not (eqb (P c f) (referenceIn w)))
-  stepMarksOf none = checkMarks false false
+  stepMarksOf none = checkMarks false false false
 
   unfoldable pub stepOpenOf : Family → ℕ
   stepOpenOf sequence = number (c .n - 1) attempt
   stepOpenOf time = left
-  stepOpenOf transition = cond (eqb (P c f) (Q c f)) (2 ^ 32 + R c f) 0
+  stepOpenOf transition = cond (startState c f && knownR c f) (2 ^ 32 + R c f) 0
   stepOpenOf value = after w
   stepOpenOf stability = cond (eqb (after (leftIn w)) 0) 0 (after (leftIn w) + held)
   stepOpenOf none = 0

@@ -1,21 +1,25 @@
--- Kinds 3 to 5, from document 01, "Time", and document 02, §2. Assumes nothing.
+-- Kinds 3 to 5, from document 01, "Time", and document 02, §2 and §8. Assumes nothing.
 use Prim.Native.Nat.{ℕ, suc, _+_, _-_}
 use mathlib.Core.Bool.{Bool, not, _&&_, _||_}
 use lib.Dec.{eqb}
 use Rattle.bits.specs.Bits.{some}
 use Rattle.rules.specs.declared.config.Config.{Config}
-use Rattle.rules.specs.Frame.{Trace, up, P, Q}
+use Rattle.rules.specs.declared.frame.Frame.{Frame}
+use Rattle.rules.specs.Frame.{Trace, up, P, Q, knownQ}
 use Rattle.rules.specs.Checks.{Checks, accepted, busy}
 use Rattle.rules.specs.Window.{windowAfter, atLast}
+
+-- test is known to be 0, and is unknown
+unfoldable pub testMissed : Config → Frame → Bool
+testMissed c f = knownQ c f && not (eqb (Q c f) 1)
+
+unfoldable pub testUnknown : Config → Frame → Bool
+testUnknown c f = not (knownQ c f)
 
 module _ (c : Config) (tr : Trace) where
   -- start is 1 in cycle t, which is out of reset
   unfoldable pub startSeen : ℕ → Bool
   startSeen t = up (tr t) && eqb (P c (tr t)) 1
-
-  -- test is 1 in cycle t
-  unfoldable pub testSeen : ℕ → Bool
-  testSeen t = eqb (Q c (tr t)) 1
 
   -- kind 4, where a start while a check is pending begins the n cycles afresh
   unfoldable pub restarts : ℕ → Bool
@@ -25,13 +29,18 @@ module _ (c : Config) (tr : Trace) where
   unfoldable pub windowPending : ℕ → ℕ → Bool
   windowPending = windowAfter (c .n) (λ u. up (tr u) && not (restarts u))
 
-  -- "test 0 in such a cycle is a failure"; kind 4 at a new start "takes no test". "Start 1 while pending: kind 3 ignores it; kind 4 […] counts n cycles
-  -- afresh from there; kind 5 […] carries on."
+  -- in cycle t the check from s takes a test that is found to be so: kind 4 at a new start "takes no test"
+  unfoldable pub windowFinds : (Frame → Bool) → ℕ → ℕ → Bool
+  windowFinds found s t = up (tr t) && windowPending s t && found (tr t) && not (restarts t)
+
+  -- "test 0 in such a cycle is a failure"; an unknown one is none, "and lets a time check […] carry on". "Start 1 while pending: kind 3 ignores it; kind 4 […] counts
+  -- n cycles afresh from there; kind 5 […] carries on." "An unknown start or trigger bit, or one in a start comparison, is no start."
   unfoldable pub timeChecks : Checks
   timeChecks = record {
     starts = startSeen;
     pending = windowPending;
-    violated = λ s t. up (tr t) && windowPending s t && not (testSeen t) && not (restarts t);
+    violated = windowFinds (testMissed c);
+    doubtful = windowFinds (testUnknown c);
     ignores = not (eqb (c .kind) 4);
   }
 

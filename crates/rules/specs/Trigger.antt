@@ -1,10 +1,10 @@
--- Kinds 7 and 8, from document 02, §4: what follows a trigger at s is checked from s+min to s+max, and n is max. Assumes nothing.
+-- Kinds 7 and 8, from document 02, §4 and §8: what follows a trigger at s is checked from s+min to s+max, and n is max. Assumes nothing.
 use Prim.Native.Nat.{ℕ, suc, _+_, _-_, _*_, _^_}
 use mathlib.Core.Bool.{Bool, true, not, _&&_, _||_, cond}
 use lib.Dec.{leb, eqb}
 use Rattle.bits.specs.Bits.{some}
 use Rattle.rules.specs.declared.config.Config.{Config}
-use Rattle.rules.specs.Frame.{Trace, up, enabled, P, Q}
+use Rattle.rules.specs.Frame.{Trace, up, enabled, P, Q, knownP}
 use Rattle.rules.specs.Checks.{Checks, accepted}
 use Rattle.rules.specs.Window.{windowAfter, atLast, atFirst}
 
@@ -13,7 +13,7 @@ abbrev pub withReference : ℕ → ℕ
 withReference r = 2 ^ 48 + r * 2 ^ 16
 
 module _ (c : Config) (tr : Trace) where
-  -- trigger is 1 in cycle t, which is enabled: in a cycle with enable 0 "no trigger [is] seen"
+  -- trigger is 1 in cycle t, which is enabled: in a cycle with enable 0 "no trigger [is] seen", and an unknown one "is no start"
   unfoldable pub triggerSeen : ℕ → Bool
   triggerSeen t = enabled (tr t) && eqb (Q c (tr t)) 1
 
@@ -30,12 +30,17 @@ module _ (c : Config) (tr : Trace) where
   unfoldable pub tested : ℕ → ℕ → Bool
   tested s t = enabled (tr t) && inWindow s t && leb (s + c .min) t
 
+  -- the tracked value of such a cycle is compared where it is known: "An unknown bit in a tested value is neither pass nor failure […] and lets […] a §4 window carry on"
+  unfoldable pub compared : ℕ → ℕ → Bool
+  compared s t = tested s t && knownP c (tr t)
+
   -- the check of each trigger, with what it requires
   unfoldable pub triggerChecks : (ℕ → ℕ → Bool) → Checks
   triggerChecks wrong = record {
     starts = triggerSeen;
     pending = triggerPending;
-    violated = λ s t. tested s t && wrong s t;
+    violated = λ s t. compared s t && wrong s t;
+    doubtful = λ s t. tested s t && not (knownP c (tr t));
     ignores = true;
   }
 
@@ -43,12 +48,13 @@ module _ (c : Config) (tr : Trace) where
   unfoldable pub valueChecks : Checks
   valueChecks = triggerChecks (λ s t. not (eqb (P c (tr t)) (c .value)))
 
-  -- "Stability compares with the first enabled cycle from s+min on": whether there is one before t, and the tracked value in it
+  -- "Stability compares with the first enabled cycle from s+min on": whether there is one before t, and the tracked value in it. An unknown one "never becomes" the
+  -- reference.
   unfoldable pub hasReference : ℕ → ℕ → Bool
-  hasReference s t = some t (tested s)
+  hasReference s t = some t (compared s)
 
   unfoldable pub reference : ℕ → ℕ → ℕ
-  reference s t = atFirst t (tested s) (λ u. P c (tr u))
+  reference s t = atFirst t (compared s) (λ u. P c (tr u))
 
   -- kind 8: the tracked value is not that of the reference
   unfoldable pub stabilityChecks : Checks

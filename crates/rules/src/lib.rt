@@ -20,6 +20,7 @@ pub use marks::ILLEGAL_START;
 pub use marks::MARKS;
 pub use marks::OPENED;
 pub use marks::RESTARTED;
+pub use marks::UNKNOWN;
 pub use reference::REFERENCE_HELD;
 pub use reference::REFERENCE_UNIT;
 pub use stopped::STOPPED;

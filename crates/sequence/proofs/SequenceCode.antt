@@ -9,14 +9,15 @@ use lib.Count.{ones}
 use borrow.Author.Tests.{ne-eqb}
 use Rattle.bits.specs.Bits.{toBit, bit, some, number}
 use Rattle.bits.proofs.Tests.{and-left, some-ext}
-use Rattle.bits.proofs.Bits.{toBit-lt, eqb-toBit, bit-number, number-ext, bit-double, bit-low, bit-zero}
+use Rattle.bits.proofs.Bits.{toBit-lt, eqb-toBit, bit-number, number-lt, number-ext, bit-double, bit-low, bit-zero}
 use Rattle.rules.specs.declared.config.Config.{Config}
 use Rattle.rules.specs.declared.frame.Frame.{Frame}
 use Rattle.rules.specs.Config.{family, minEvents, maxEvents, Good}
 use Rattle.rules.specs.Config.Family.{sequence}
-use Rattle.rules.specs.Frame.{P}
+use Rattle.rules.specs.Frame.{P, unknownP}
 use Rattle.rules.specs.Rules.{checkMarks, rowOf}
-use Rattle.rules.specs.Step.{startsAttempt, attempt, attemptFails, stepMarksOf, stepOpenOf, StepsTo}
+use Rattle.rules.specs.Sequence.{eventMissed, eventUnknown}
+use Rattle.rules.specs.Step.{startsAttempt, attempt, attemptOn, stepMarksOf, stepOpenOf, StepsTo}
 use Rattle.rules.specs.Possible.{possibleOf, goingPossible}
 use Rattle.rules.proofs.Good.{sequence-config, possible-are}
 
@@ -47,6 +48,12 @@ start-waits c w e k = rw k (ap (λ (b : Bool). eqb (e % 2) 1 && b) (twice (eqb w
 pub start-free : (c : Config) (w e : ℕ) → (c .kind ≡ 2 → ⊥) → eqb (e % 2) 1 ≡ start c w e
 start-free c w e k = simp (ne-eqb (c .kind) 2 k, and-true)
 
+-- events in an attempt's order are n bits
+pub in-order-low : (c : Config) → Good c → family (c .kind) ≡ sequence → (x v : ℕ) → x ≡ number (c .n) (λ (i : ℕ). bit v (c .n - 1 - i))
+    → (c .n < 64) × (x < 2 ^ c .n)
+in-order-low c good k x v e =
+    (omega (arith, sequence-config c good k .high), rw e (number-lt (c .n) (λ (i : ℕ). bit v (c .n - 1 - i))))
+
 again : (a b : Bool) → (a && b && a) ≡ (a && b)
 again true true = refl
 again true false = refl
@@ -72,35 +79,54 @@ module _
       ∙ again (eqb (e % 2) 1) (free c w) ∙ start-is
   attempt-is (suc j) l = ap₂ (λ (a b : Bool). a && b) (bit-double w (toBit (start c w e)) j (toBit-lt (start c w e))) (event (suc j) l)
 
-  failure-is :
-      cond (eqb (c .kind) 0) (bit w (c .n - 2) && not (bit e (c .n - 1))) (some (c .n - 1) (λ (j : ℕ). bit w j && not (bit e (suc j))))
-      ≡ attemptFails c w f
-  unfolding attemptFails
-  failure-is =
-      let none : c .n - 1 - (c .n - 1) ≡ 0 = omega arith in
-      ap₂ (λ (a b : Bool). cond (eqb (c .kind) 0) (bit w (c .n - 2) && not a) b) (event (c .n - 1) (omega arith) ∙ ap (bit (P c f)) none)
-      (some-ext (c .n - 1) (λ (j : ℕ). bit w j && not (bit e (suc j))) (λ (j : ℕ). bit w j && not (bit (P c f) (c .n - 1 - suc j)))
-      (λ j l. ap (λ (b : Bool). bit w j && not b) (event (suc j) (omega arith))))
+  -- what the code finds of the attempts that are tested on the events of a word
+  abbrev pub tested : ℕ → Bool
+  tested x = cond (eqb (c .kind) 0) (bit w (c .n - 2) && bit x (c .n - 1)) (some (c .n - 1) (λ (j : ℕ). bit w j && bit x (suc j)))
 
-  -- the row and the next open word of the code
-  pub steps : (b : Bool) (next row : ℕ) (failure opened : Bool)
-      → b ≡ start c w e
-      → next ≡ number (c .n - 1) (λ (j : ℕ). bit (w * 2 + toBit b) j && bit e j)
-      → failure
-      ≡ cond (eqb (c .kind) 0) (bit w (c .n - 2) && not (bit e (c .n - 1))) (some (c .n - 1) (λ (j : ℕ). bit w j && not (bit e (suc j))))
-      → opened ≡ cond (eqb (c .kind) 0) (bit next (c .n - 2)) b
-      → row ≡ rowOf (checkMarks failure opened)
-      → StepsTo sequence c w f row next
-  unfolding stepMarksOf stepOpenOf
-  steps b next row failure opened s n g o r =
-      let word : next ≡ number (c .n - 1) (attempt c w f) =
-      n
-      ∙ number-ext (c .n - 1) (λ (j : ℕ). bit (w * 2 + toBit b) j && bit e j) (attempt c w f)
-      (λ j l. ap (λ (a : Bool). bit (w * 2 + toBit a) j && bit e j) s ∙ attempt-is j (omega arith)) in
-      let oldest : bit next (c .n - 2) ≡ attempt c w f (c .n - 2) =
-      ap (λ (x : ℕ). bit x (c .n - 2)) word ∙ bit-number (c .n - 1) (attempt c w f) (c .n - 2) (omega arith) in
-      record {
-        row-is = r ∙ ap₂ (λ (a b : Bool). rowOf (checkMarks a b))
-            (g ∙ failure-is) (o ∙ ap₂ (cond (eqb (c .kind) 0)) oldest (s ∙ start-is));
-        word-is = word;
-      }
+  tested-is : (found : Frame → ℕ → Bool) (x : ℕ) → ((j : ℕ) → j < c .n → bit x j ≡ found f (c .n - 1 - j)) → tested x ≡ attemptOn c w f found
+  unfolding attemptOn
+  tested-is found x h =
+      let none : c .n - 1 - (c .n - 1) ≡ 0 = omega arith in
+      ap₂ (λ (a b : Bool). cond (eqb (c .kind) 0) (bit w (c .n - 2) && a) b) (h (c .n - 1) (omega arith) ∙ ap (found f) none)
+      (some-ext (c .n - 1) (λ (j : ℕ). bit w j && bit x (suc j)) (λ (j : ℕ). bit w j && found f (c .n - 1 - suc j))
+      (λ j l. ap (λ (b : Bool). bit w j && b) (h (suc j) (omega arith))))
+
+  module _ (u m : ℕ) (unknown : u ≡ number (c .n) (λ (i : ℕ). bit (unknownP c f) (c .n - 1 - i)))
+      (missed : m ≡ number (c .n) (λ (i : ℕ). not (bit e i) && not (bit u i))) where
+    unknown-bit : (j : ℕ) → j < c .n → bit u j ≡ eventUnknown c f (c .n - 1 - j)
+    unfolding eventUnknown
+    unknown-bit j l = ap (λ (x : ℕ). bit x j) unknown ∙ bit-number (c .n) (λ (i : ℕ). bit (unknownP c f) (c .n - 1 - i)) j l
+
+    missed-bit : (j : ℕ) → j < c .n → bit m j ≡ eventMissed c f (c .n - 1 - j)
+    unfolding eventMissed eventUnknown
+    missed-bit j l =
+        ap (λ (x : ℕ). bit x j) missed ∙ bit-number (c .n) (λ (i : ℕ). not (bit e i) && not (bit u i)) j l
+        ∙ ap₂ (λ (a b : Bool). not a && not b) (event j l) (unknown-bit j l)
+
+    pub missed-is : m ≡ number (c .n) (λ (i : ℕ). eventMissed c f (c .n - 1 - i))
+    missed-is =
+        missed
+        ∙ number-ext (c .n) (λ (i : ℕ). not (bit e i) && not (bit u i)) (λ (i : ℕ). eventMissed c f (c .n - 1 - i))
+        (λ i l. sym (bit-number (c .n) (λ (j : ℕ). not (bit e j) && not (bit u j)) i l) ∙ ap (λ (x : ℕ). bit x i) (sym missed) ∙ missed-bit i l)
+
+    -- the row and the next open word of the code
+    pub steps : (b : Bool) (next row : ℕ) (failure opened doubt : Bool)
+        → b ≡ start c w e
+        → next ≡ number (c .n - 1) (λ (j : ℕ). bit (w * 2 + toBit b) j && bit e j)
+        → failure ≡ tested m
+        → opened ≡ cond (eqb (c .kind) 0) (bit next (c .n - 2)) b
+        → doubt ≡ tested u
+        → row ≡ rowOf (checkMarks failure opened doubt)
+        → StepsTo sequence c w f row next
+    unfolding stepMarksOf stepOpenOf
+    steps b next row failure opened doubt s n g o d r =
+        let word : next ≡ number (c .n - 1) (attempt c w f) =
+        n
+        ∙ number-ext (c .n - 1) (λ (j : ℕ). bit (w * 2 + toBit b) j && bit e j) (attempt c w f)
+        (λ j l. ap (λ (a : Bool). bit (w * 2 + toBit a) j && bit e j) s ∙ attempt-is j (omega arith)) in
+        let oldest : bit next (c .n - 2) ≡ attempt c w f (c .n - 2) =
+        ap (λ (x : ℕ). bit x (c .n - 2)) word ∙ bit-number (c .n - 1) (attempt c w f) (c .n - 2) (omega arith) in
+        let fails : failure ≡ attemptOn c w f (eventMissed c) = g ∙ tested-is (eventMissed c) m missed-bit in
+        let opens : opened ≡ cond (eqb (c .kind) 0) (attempt c w f (c .n - 2)) (startsAttempt c w f) = o ∙ ap₂ (cond (eqb (c .kind) 0)) oldest (s ∙ start-is) in
+        let doubts : doubt ≡ attemptOn c w f (eventUnknown c) = d ∙ tested-is (eventUnknown c) u unknown-bit in
+        record { row-is = r ∙ rw (fails, opens, doubts) refl; word-is = word }

@@ -1,9 +1,9 @@
 // Runs of kinds 0 to 2 that do not stop.
 use rules::Config;
-use sequence::sequence_cycle;
+use sequence::events_at;
+use sequence::events_cycle;
 use trace::Reached;
 use trace::Stretch;
-use trace::frame_at;
 use trace::kept_at_end;
 ghost use mathlib.Core.Bool.{false};
 ghost use mathlib.Core.Path.{_≡_};
@@ -29,7 +29,7 @@ pub fn fill_sequence(
     let kept = s.kept;
     let last = kept_at_end(words, at, to, kept);
     while at < to {
-        let next = sequence_cycle(c, word, frame_at(trace, from + at));
+        let next = events_cycle(c, word, events_at(c, trace, from + at));
         word = next.word;
         rows[at] = next.row;
         words[at] = word;

@@ -1,9 +1,9 @@
 // Runs of kinds 0 to 2 that stop where they meet the kept words.
 use rules::Config;
-use sequence::sequence_cycle;
+use sequence::events_at;
+use sequence::events_cycle;
 use trace::Reached;
 use trace::Stretch;
-use trace::frame_at;
 ghost use mathlib.Core.Bool.{true};
 ghost use mathlib.Core.Path.{_≡_};
 ghost use Rattle.rules.specs.Config.{GoesOn};
@@ -30,7 +30,7 @@ pub fn seek_sequence(
         if word == kept {
             return Reached { at, word, kept };
         }
-        let next = sequence_cycle(c, word, frame_at(trace, from + at));
+        let next = events_cycle(c, word, events_at(c, trace, from + at));
         kept = words[at];
         word = next.word;
         rows[at] = next.row;

@@ -1,4 +1,8 @@
 // Kind 8, stability after a trigger: one step.
 mod step;
 
+pub use step::Tracked;
 pub use step::stability_cycle;
+pub use step::tracked_at;
+pub use step::tracked_cycle;
+pub use step::tracked_in;

@@ -2,10 +2,10 @@
 use fatal::fails;
 use rules::Config;
 use rules::STOPPED;
-use stability::stability_cycle;
+use stability::tracked_at;
+use stability::tracked_cycle;
 use trace::Reached;
 use trace::Stretch;
-use trace::frame_at;
 use trace::kept_at_end;
 ghost use mathlib.Core.Bool.{false};
 ghost use mathlib.Core.Path.{_≡_};
@@ -26,7 +26,7 @@ pub fn fill(c: Config, trace: &[u32], rows: &mut [u32], words: &mut [u64], s: St
     let kept = s.kept;
     let last = kept_at_end(words, at, to, kept);
     while at < to {
-        let next = stability_cycle(c, word, frame_at(trace, from + at));
+        let next = tracked_cycle(c, word, tracked_at(c, trace, from + at));
         rows[at] = next.row;
         if fails(next.row) {
             let before = words[at];

@@ -2,10 +2,10 @@
 use fatal::fails;
 use rules::Config;
 use rules::STOPPED;
-use stability::stability_cycle;
+use stability::tracked_at;
+use stability::tracked_cycle;
 use trace::Reached;
 use trace::Stretch;
-use trace::frame_at;
 ghost use mathlib.Core.Bool.{true};
 ghost use mathlib.Core.Path.{_≡_};
 ghost use Rattle.rules.specs.Config.{GoesOn, fatally};
@@ -27,7 +27,7 @@ pub fn seek(c: Config, trace: &[u32], rows: &mut [u32], words: &mut [u64], s: St
         if word == kept {
             return Reached { at, word, kept };
         }
-        let next = stability_cycle(c, word, frame_at(trace, from + at));
+        let next = tracked_cycle(c, word, tracked_at(c, trace, from + at));
         kept = words[at];
         rows[at] = next.row;
         if fails(next.row) {

@@ -1,9 +1,9 @@
 // Runs of kind 8 that do not stop.
 use rules::Config;
-use stability::stability_cycle;
+use stability::tracked_at;
+use stability::tracked_cycle;
 use trace::Reached;
 use trace::Stretch;
-use trace::frame_at;
 use trace::kept_at_end;
 ghost use mathlib.Core.Bool.{false};
 ghost use mathlib.Core.Path.{_≡_};
@@ -29,7 +29,7 @@ pub fn fill_stability(
     let kept = s.kept;
     let last = kept_at_end(words, at, to, kept);
     while at < to {
-        let next = stability_cycle(c, word, frame_at(trace, from + at));
+        let next = tracked_cycle(c, word, tracked_at(c, trace, from + at));
         word = next.word;
         rows[at] = next.row;
         words[at] = word;

@@ -1,9 +1,9 @@
 // Runs of kind 8 that stop where they meet the kept words.
 use rules::Config;
-use stability::stability_cycle;
+use stability::tracked_at;
+use stability::tracked_cycle;
 use trace::Reached;
 use trace::Stretch;
-use trace::frame_at;
 ghost use mathlib.Core.Bool.{true};
 ghost use mathlib.Core.Path.{_≡_};
 ghost use Rattle.rules.specs.Config.{GoesOn};
@@ -30,7 +30,7 @@ pub fn seek_stability(
         if word == kept {
             return Reached { at, word, kept };
         }
-        let next = stability_cycle(c, word, frame_at(trace, from + at));
+        let next = tracked_cycle(c, word, tracked_at(c, trace, from + at));
         kept = words[at];
         word = next.word;
         rows[at] = next.row;

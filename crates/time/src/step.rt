@@ -2,6 +2,7 @@
 use cycle::Outcome;
 use cycle::out_of_reset;
 use cycle::row_of;
+use cycle::sample;
 use rules::Config;
 use rules::Frame;
 use rules::OPENED;
@@ -20,7 +21,7 @@ fn time_step(c: Config, word: u64, frame: Frame) -> Outcome
 {
     let p = c.p;
     let q = c.q;
-    let start = p.wire(frame.samples[1]);
+    let start = p.wire(sample(frame, 1));
     let window = c.n as u64;
     // Nothing is pending, so nothing is tested.
     if word == 0 {
@@ -40,10 +41,18 @@ fn time_step(c: Config, word: u64, frame: Frame) -> Outcome
             word: window,
         };
     }
-    let test = q.wire(frame.samples[2]);
+    let test = q.wire(sample(frame, 2));
+    let unknown = q.wire(frame.samples[6]);
     let left = word - 1;
     Outcome {
-        row: row_of(!test, start & (c.kind == 5), false, word == 1, false),
+        row: row_of(
+            !test & !unknown,
+            start & (c.kind == 5),
+            false,
+            word == 1,
+            false,
+            unknown,
+        ),
         word: left,
     }
 }

@@ -4,8 +4,8 @@ use rules::Config;
 use rules::STOPPED;
 use trace::Reached;
 use trace::Stretch;
-use trace::frame_at;
-use transition::transition_cycle;
+use transition::ports_at;
+use transition::ports_cycle;
 ghost use mathlib.Core.Bool.{true};
 ghost use mathlib.Core.Path.{_≡_};
 ghost use Rattle.rules.specs.Config.{GoesOn, fatally};
@@ -27,7 +27,7 @@ pub fn seek(c: Config, trace: &[u32], rows: &mut [u32], words: &mut [u64], s: St
         if word == kept {
             return Reached { at, word, kept };
         }
-        let next = transition_cycle(c, word, frame_at(trace, from + at));
+        let next = ports_cycle(c, word, ports_at(c, trace, from + at));
         kept = words[at];
         rows[at] = next.row;
         if fails(next.row) {

@@ -2,9 +2,9 @@
 use rules::Config;
 use trace::Reached;
 use trace::Stretch;
-use trace::frame_at;
 use trace::kept_at_end;
-use transition::transition_cycle;
+use transition::ports_at;
+use transition::ports_cycle;
 ghost use mathlib.Core.Bool.{false};
 ghost use mathlib.Core.Path.{_≡_};
 ghost use Rattle.rules.specs.Config.{GoesOn};
@@ -29,7 +29,7 @@ pub fn fill_transition(
     let kept = s.kept;
     let last = kept_at_end(words, at, to, kept);
     while at < to {
-        let next = transition_cycle(c, word, frame_at(trace, from + at));
+        let next = ports_cycle(c, word, ports_at(c, trace, from + at));
         word = next.word;
         rows[at] = next.row;
         words[at] = word;

@@ -16,10 +16,10 @@ use Rattle.bits.proofs.Tests.{either, of-true, of-false, iff-eq}
 use Rattle.rules.specs.declared.config.Config.{Config}
 use Rattle.rules.specs.declared.frame.Frame.{Frame}
 use Rattle.rules.specs.Config.Family.{value, stability}
-use Rattle.rules.specs.Frame.{sample, up, enabled, P, Q}
+use Rattle.rules.specs.Frame.{sample, up, enabled, P, Q, knownP}
 use Rattle.rules.specs.Trigger.{withReference}
 use Rattle.rules.specs.Rules.{rowOf, windowMarks}
-use Rattle.rules.specs.Step.{leftIn, holds, referenceIn, pends, triggered, opens, after, tests, trackedMarks, held, stepMarksOf, stepOpenOf, StepsTo}
+use Rattle.rules.specs.Step.{leftIn, holds, referenceIn, pends, triggered, opens, after, tests, compares, trackedMarks, held, stepMarksOf, stepOpenOf, StepsTo}
 
 -- a cycle is from s+min on where so many cycles are left after it
 min-left : (c : Config) → c .min ≤ c .n → (l : ℕ) → leb l (c .n - c .min) ≡ leb (l + c .min) (c .n)
@@ -61,29 +61,31 @@ module _ (c : Config) (w : ℕ) (f : Frame) where
     tests-is before l = rw (o, l, min-left c low left) (ap (λ (b : Bool). b && leb (left + c .min) (c .n)) (and-true (enabled f)))
 
     marks-are : (before : ℕ) → after c w f before ≡ left → (wrong : Bool)
-        → windowMarks (enabled f && leb left (c .n - c .min) && wrong) opened (eqb left 0) ≡ trackedMarks c w f before wrong
-    unfolding trackedMarks
+        → windowMarks (enabled f && leb left (c .n - c .min) && knownP c f && wrong) opened (eqb left 0) (enabled f && leb left (c .n - c .min) && not (knownP c f))
+        ≡ trackedMarks c w f before wrong
+    unfolding trackedMarks compares
     marks-are before l wrong = rw (tests-is before l, o, l, t) refl
 
     pub value-steps : after c w f w ≡ left → (row : ℕ)
-        → row ≡ rowOf (windowMarks (enabled f && leb left (c .n - c .min) && not (eqb (P c f) (c .value))) opened (eqb left 0)) → StepsTo value c w f row left
+        → row ≡ rowOf (windowMarks (enabled f && leb left (c .n - c .min) && knownP c f && not (eqb (P c f) (c .value))) opened (eqb left 0) (enabled f && leb left (c .n - c .min) && not (knownP c f)))
+        → StepsTo value c w f row left
     unfolding stepMarksOf stepOpenOf
     value-steps l row r = record { row-is = r ∙ ap rowOf (marks-are w l (not (eqb (P c f) (c .value)))); word-is = sym l }
 
     -- kind 8: a window without a reference, and one that has it
     module _ (l : after c w f (leftIn w) ≡ left) where
-      pub first-steps : holds w ≡ false → (row next : ℕ) → row ≡ rowOf (windowMarks false opened (eqb left 0))
-          → next ≡ cond (eqb left 0) 0 (left + cond (enabled f && leb left (c .n - c .min)) (withReference (P c f)) 0) → StepsTo stability c w f row next
-      unfolding stepMarksOf stepOpenOf held
+      pub first-steps : holds w ≡ false → (row next : ℕ) → row ≡ rowOf (windowMarks false opened (eqb left 0) (enabled f && leb left (c .n - c .min) && not (knownP c f)))
+          → next ≡ cond (eqb left 0) 0 (left + cond (enabled f && leb left (c .n - c .min) && knownP c f) (withReference (P c f)) 0) → StepsTo stability c w f row next
+      unfolding stepMarksOf stepOpenOf held compares
       first-steps h row next r n =
           let tested = enabled f && leb left (c .n - c .min) in
           record {
-            row-is = r ∙ ap rowOf (rw h (ap (λ (b : Bool). windowMarks b opened (eqb left 0)) (sym (and-false tested)) ∙ marks-are (leftIn w) l false));
+            row-is = r ∙ ap rowOf (rw h (ap (λ (b : Bool). windowMarks b opened (eqb left 0) (tested && not (knownP c f))) (sym (and-false (tested && knownP c f))) ∙ marks-are (leftIn w) l false));
             word-is = n ∙ rw (h, l, tests-is (leftIn w) l) refl;
           }
 
       pub compared-steps : holds w ≡ true → leb left (c .n - c .min) ≡ true → (row next : ℕ)
-          → row ≡ rowOf (windowMarks (enabled f && not (eqb (P c f) (referenceIn w))) opened (eqb left 0))
+          → row ≡ rowOf (windowMarks (enabled f && knownP c f && not (eqb (P c f) (referenceIn w))) opened (eqb left 0) (enabled f && not (knownP c f)))
           → next ≡ cond (eqb left 0) 0 (left + withReference (referenceIn w)) → StepsTo stability c w f row next
       unfolding stepMarksOf stepOpenOf held
       compared-steps h m row next r n =
@@ -106,11 +108,11 @@ module _ (c : Config) (w : ℕ) (f : Frame) where
 
     module _ (none : (enabled f && eqb (Q c f) 1) ≡ false) where
       pub idle-value : StepsTo value c w f 0 0
-      unfolding stepMarksOf stepOpenOf trackedMarks tests after rowOf
+      unfolding stepMarksOf stepOpenOf trackedMarks compares tests after rowOf
       idle-value = record { row-is = simp (opens-only, trigger-only, none, and-false); word-is = rw (trigger-only, none, z) refl }
 
       idle-stability : StepsTo stability c w f 0 0
-      unfolding stepMarksOf stepOpenOf trackedMarks tests after rowOf
+      unfolding stepMarksOf stepOpenOf trackedMarks compares tests after rowOf
       idle-stability = record { row-is = simp (opens-only, trigger-only, none, and-false); word-is = rw (trigger-only, none, z) refl }
 
     -- a trigger opens a window
@@ -221,7 +223,7 @@ pub word-before : (w : ℕ) → 2 ^ 48 ≤ w → 0 < leftIn w → w - 1 ≡ left
 word-before w h l = omega arith
 
 -- the row of a step of such a word, from what the code has read
-pub compared-row : (c : Config) (w : ℕ) (f : Frame) → 2 ^ 48 ≤ w → 0 < leftIn w → (e : Bool) (x row : ℕ) → e ≡ enabled f → x ≡ P c f
-    → row ≡ rowOf (windowMarks (e && not (eqb (x + 2 ^ 32) (w / 2 ^ 16))) false (eqb (leftIn w) 1))
-    → row ≡ rowOf (windowMarks (enabled f && not (eqb (P c f) (referenceIn w))) false (eqb (leftIn w - 1) 0))
-compared-row c w f h l e x row a b r = r ∙ rw (a, b, same-reference w (P c f) h, last-left (leftIn w) l) refl
+pub compared-row : (c : Config) (w : ℕ) (f : Frame) → 2 ^ 48 ≤ w → 0 < leftIn w → (e k : Bool) (x row : ℕ) → e ≡ enabled f → k ≡ knownP c f → x ≡ P c f
+    → row ≡ rowOf (windowMarks (e && k && not (eqb (x + 2 ^ 32) (w / 2 ^ 16))) false (eqb (leftIn w) 1) (e && not k))
+    → row ≡ rowOf (windowMarks (enabled f && knownP c f && not (eqb (P c f) (referenceIn w))) false (eqb (leftIn w - 1) 0) (enabled f && not (knownP c f)))
+compared-row c w f h l e k x row a d b r = r ∙ rw (a, d, b, same-reference w (P c f) h, last-left (leftIn w) l) refl

@@ -1,6 +1,8 @@
 // One step of kind 7.
 use cycle::Outcome;
+use cycle::is_enabled;
 use cycle::out_of_reset;
+use cycle::sample;
 use cycle::window_row;
 use expected::Expected;
 use rules::Config;
@@ -13,7 +15,7 @@ ghost use Prim.Native.Nat.{_-_};
 ghost use lib.Dec.{T, eqb, leb};
 ghost use Rattle.rules.specs.Config.{Good, family, GoesOn};
 ghost use Rattle.rules.specs.Config.Family.{value};
-ghost use Rattle.rules.specs.Frame.{up, enabled, P};
+ghost use Rattle.rules.specs.Frame.{up, enabled, P, knownP};
 ghost use Rattle.rules.specs.Possible.{possible};
 ghost use Rattle.rules.specs.Rules.{rowOf, windowMarks};
 ghost use Rattle.rules.specs.Step.{StepsTo, Steps};
@@ -45,10 +47,14 @@ fn value_step(c: Config, e: Expected, word: u64, frame: Frame) -> Outcome
 // The row of a cycle in a window with so many cycles left after it.
 fn value_row(c: Config, e: Expected, opened: bool, left: u64, frame: Frame) -> u32
     requires { ⌜ (Good c) × (family (c .kind) ≡ value) × (Expects c e) × (up frame ≡ true) ⌝ }
-    ensures { λ r. ⌜ r ≡ rowOf (windowMarks (enabled frame && leb left (c .n - c .min) && not (eqb (P c frame) (c .value))) opened (eqb left 0)) ⌝ }
+    ensures { λ r. ⌜ r ≡ rowOf (windowMarks (enabled frame && leb left (c .n - c .min) && knownP c frame && not (eqb (P c frame) (c .value))) opened (eqb left 0) (enabled frame && leb left (c .n - c .min) && not (knownP c frame))) ⌝ }
 {
-    let wrong = frame.samples[1] & e.mask != e.wires;
-    window_row(is_tested(c, left, frame) & wrong, opened, left == 0)
+    let tested = is_tested(c, left, is_enabled(frame));
+    if frame.samples[5] & e.mask != 0 {
+        return window_row(false, opened, left == 0, tested);
+    }
+    let wrong = sample(frame, 1) & e.mask != e.wires;
+    window_row(tested & wrong, opened, left == 0, false)
 }
 
 // The step in any cycle: a reset ends everything.

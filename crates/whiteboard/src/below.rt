@@ -24,7 +24,7 @@ pub fn lists() {
 }
 
 // The full check of a trace, then the recheck of its record under the edited trace.
-fn edited(c: Config, old: [u32; 24], new: [u32; 24], a: usize, b: usize) {
+fn edited(c: Config, old: [u32; 48], new: [u32; 48], a: usize, b: usize) {
     let mut rows = [0u32; 6];
     let mut words = [0u64; 6];
     full_check(c, &old, &mut rows, &mut words);

@@ -27,44 +27,117 @@ pub fn time(kind: u8, n: u32) -> Config {
     sequence(kind, n, range(0, 0))
 }
 
+// A word of six cycles for each: what is sampled, or which wires are unknown.
+pub struct Words {
+    pub resets: [u32; 6],
+    pub p: [u32; 6],
+    pub q: [u32; 6],
+    pub r: [u32; 6],
+}
+
+// No wire is unknown.
+fn known() -> Words {
+    Words {
+        resets: [0; 6],
+        p: [0; 6],
+        q: [0; 6],
+        r: [0; 6],
+    }
+}
+
 // Six cycles out of reset.
-pub fn six(p: [u32; 6], q: [u32; 6]) -> [u32; 24] {
+pub fn six(p: [u32; 6], q: [u32; 6]) -> [u32; 48] {
     six_with([1; 6], p, q)
 }
 
 // Six cycles with their reset words.
-pub fn six_with(resets: [u32; 6], p: [u32; 6], q: [u32; 6]) -> [u32; 24] {
+pub fn six_with(resets: [u32; 6], p: [u32; 6], q: [u32; 6]) -> [u32; 48] {
+    let r = [0; 6];
+    six_frames(Words { resets, p, q, r }, known())
+}
+
+// Six cycles with their samples s, and the unknown wires x.
+pub fn six_frames(s: Words, x: Words) -> [u32; 48] {
     [
-        resets[0],
-        p[0],
-        q[0],
-        0,
-        resets[1],
-        p[1],
-        q[1],
-        0,
-        resets[2],
-        p[2],
-        q[2],
-        0,
-        resets[3],
-        p[3],
-        q[3],
-        0,
-        resets[4],
-        p[4],
-        q[4],
-        0,
-        resets[5],
-        p[5],
-        q[5],
-        0,
+        s.resets[0],
+        s.p[0],
+        s.q[0],
+        s.r[0],
+        x.resets[0],
+        x.p[0],
+        x.q[0],
+        x.r[0],
+        s.resets[1],
+        s.p[1],
+        s.q[1],
+        s.r[1],
+        x.resets[1],
+        x.p[1],
+        x.q[1],
+        x.r[1],
+        s.resets[2],
+        s.p[2],
+        s.q[2],
+        s.r[2],
+        x.resets[2],
+        x.p[2],
+        x.q[2],
+        x.r[2],
+        s.resets[3],
+        s.p[3],
+        s.q[3],
+        s.r[3],
+        x.resets[3],
+        x.p[3],
+        x.q[3],
+        x.r[3],
+        s.resets[4],
+        s.p[4],
+        s.q[4],
+        s.r[4],
+        x.resets[4],
+        x.p[4],
+        x.q[4],
+        x.r[4],
+        s.resets[5],
+        s.p[5],
+        s.q[5],
+        s.r[5],
+        x.resets[5],
+        x.p[5],
+        x.q[5],
+        x.r[5],
     ]
 }
 
 // Three cycles out of reset.
-pub fn three(p: [u32; 3], q: [u32; 3]) -> [u32; 12] {
-    [1, p[0], q[0], 0, 1, p[1], q[1], 0, 1, p[2], q[2], 0]
+pub fn three(p: [u32; 3], q: [u32; 3]) -> [u32; 24] {
+    [
+        1,
+        p[0],
+        q[0],
+        0,
+        0,
+        0,
+        0,
+        0,
+        1,
+        p[1],
+        q[1],
+        0,
+        0,
+        0,
+        0,
+        0,
+        1,
+        p[2],
+        q[2],
+        0,
+        0,
+        0,
+        0,
+        0,
+    ]
 }
 
 // Case A's samples, and case F's.
@@ -92,13 +165,13 @@ fn end(c: Config, trace: &[u32], rows: &mut [u32], words: &mut [u64]) {
     report::text(b" |\n");
 }
 
-pub fn end_of_six(c: Config, trace: [u32; 24]) {
+pub fn end_of_six(c: Config, trace: [u32; 48]) {
     let mut rows = [0u32; 6];
     let mut words = [0u64; 6];
     end(c, &trace, &mut rows, &mut words);
 }
 
-fn end_of_three(c: Config, trace: [u32; 12]) {
+fn end_of_three(c: Config, trace: [u32; 24]) {
     let mut rows = [0u32; 3];
     let mut words = [0u64; 3];
     end(c, &trace, &mut rows, &mut words);
@@ -149,7 +222,7 @@ pub fn windows() {
 }
 
 // The samples of a transition checker.
-fn states(line: &[u8], test: &[u32], start: &[u32], next: &[u32]) {
+pub fn states(line: &[u8], test: &[u32], start: &[u32], next: &[u32]) {
     begin(line);
     report::spaced_numbers(test);
     report::text(b", start");
@@ -159,38 +232,76 @@ fn states(line: &[u8], test: &[u32], start: &[u32], next: &[u32]) {
 }
 
 // Five cycles of a transition checker out of reset.
-fn five_states(test: [u32; 5], start: [u32; 5], next: [u32; 5]) -> [u32; 20] {
+fn five_states(test: [u32; 5], start: [u32; 5], next: [u32; 5]) -> [u32; 40] {
     [
         1,
         test[0],
         start[0],
         next[0],
+        0,
+        0,
+        0,
+        0,
         1,
         test[1],
         start[1],
         next[1],
+        0,
+        0,
+        0,
+        0,
         1,
         test[2],
         start[2],
         next[2],
+        0,
+        0,
+        0,
+        0,
         1,
         test[3],
         start[3],
         next[3],
+        0,
+        0,
+        0,
+        0,
         1,
         test[4],
         start[4],
         next[4],
+        0,
+        0,
+        0,
+        0,
     ]
 }
 
 // Two cycles of a transition checker out of reset.
-fn two_states(test: [u32; 2], start: [u32; 2], next: [u32; 2]) -> [u32; 8] {
-    [1, test[0], start[0], next[0], 1, test[1], start[1], next[1]]
+fn two_states(test: [u32; 2], start: [u32; 2], next: [u32; 2]) -> [u32; 16] {
+    [
+        1,
+        test[0],
+        start[0],
+        next[0],
+        0,
+        0,
+        0,
+        0,
+        1,
+        test[1],
+        start[1],
+        next[1],
+        0,
+        0,
+        0,
+        0,
+    ]
 }
 
-pub fn transitions() {
-    let c = Config {
+// A checker of kind 6, all [2:0].
+pub fn transition() -> Config {
+    Config {
         kind: 6,
         n: 0,
         p: range(2, 0),
@@ -199,7 +310,11 @@ pub fn transitions() {
         min: 0,
         value: 0,
         severity: 0,
-    };
+    }
+}
+
+pub fn transitions() {
+    let c = transition();
     let t = [3, 4, 3, 0, 3];
     let s = [3u32; 5];
     let n = [4, 4, 0, 4, 4];
@@ -242,7 +357,7 @@ pub fn tracked(line: &[u8], c: Config, enables: [u32; 6], triggers: [u32; 6], p:
 }
 
 // The reset words with these enables, out of reset.
-fn resets(enables: [u32; 6]) -> [u32; 6] {
+pub fn resets(enables: [u32; 6]) -> [u32; 6] {
     [
         1 | (enables[0] << 1),
         1 | (enables[1] << 1),

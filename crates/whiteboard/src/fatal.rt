@@ -5,7 +5,7 @@ use rules::Config;
 use rules::FATAL;
 
 // The same checker, made fatal.
-fn fatal(c: Config) -> Config {
+pub fn fatal(c: Config) -> Config {
     let p = c.p;
     let q = c.q;
     let r = c.r;

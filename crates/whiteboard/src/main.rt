@@ -1,8 +1,9 @@
-// The whiteboard table: its twelve cases, each checked from its samples, the examples below it, six cases of kinds 7 and 8, and four of
-// fatal checkers.
+// The whiteboard table: its twelve cases, each checked from its samples, the examples below it, six cases of kinds 7 and 8, four of
+// fatal checkers, and seven with unknown bits.
 mod below;
 mod cases;
 mod fatal;
+mod unknown;
 
 fn main() {
     cases::sequences();
@@ -13,4 +14,5 @@ fn main() {
     below::window_recheck();
     cases::after_triggers();
     fatal::fatals();
+    unknown::unknowns();
 }

@@ -4,7 +4,7 @@ use Prim.Native.Nat.{ℕ, suc, _+_, _-_, _*_, _≤_, zero-le}
 use mathlib.Core.Path.{_≡_, sym, ap}
 use native.Mathlib.Nat.{add-zero}
 use native.Mathlib.Omega.{arith}
-use Rattle.rules.specs.Frame.{frameWords, sample}
+use Rattle.rules.specs.Frame.{frameWords, frameWord}
 use Rattle.trace.specs.Traces.{frames}
 use Rattle.trace.specs.Runs.{Written}
 use Rattle.trace.proofs.Written.{written-none, written-more}
@@ -60,7 +60,7 @@ loop-again c =
     let k : first + at .i - first ≡ at .i = omega arith in (
       omega arith,
       rw e
-          (written-more _ first (first + at .i) (s .args .trace .now) (at .trace) _ (omega arith) (omega arith) (sym (ap (sample (s .args .frame)) k)) (at .inv .1)),
+          (written-more _ first (first + at .i) (s .args .trace .now) (at .trace) _ (omega arith) (omega arith) (sym (ap (frameWord (s .args .frame)) k)) (at .inv .1)),
     )
 
 same-length : tie.Need-same-length Inv-loop μ-loop

@@ -46,11 +46,20 @@ mul-result-5 c = search needs
 add-result-4 : tie.Need-add-result-4
 add-result-4 c = search needs
 
+to-bit-requires-6 : tie.Need-to-bit-requires-6
+to-bit-requires-6 c κs = search needs
+
+mul-result-6 : tie.Need-mul-result-6
+mul-result-6 c = search needs
+
+add-result-5 : tie.Need-add-result-5
+add-result-5 c = search needs
+
 returns : tie.Need-returns
 unfolding rowOf
 returns c =
     rw
-    (c .to-bit5 .ensures .0, c .before .to-bit4 .ensures .0, c .before .before .to-bit3 .ensures .0, c .before .before .before .to-bit2 .ensures .0, c .before .before .before .before .to-bit .ensures .0)
+    (c .to-bit6 .ensures .0, c .before .to-bit5 .ensures .0, c .before .before .to-bit4 .ensures .0, c .before .before .before .to-bit3 .ensures .0, c .before .before .before .before .to-bit2 .ensures .0, c .before .before .before .before .before .to-bit .ensures .0)
 
 pub row-of-spec : {M : Type 1} → statement M
 row-of-spec =
@@ -70,4 +79,7 @@ row-of-spec =
     to-bit-requires-5
     mul-result-5
     add-result-4
+    to-bit-requires-6
+    mul-result-6
+    add-result-5
     returns)

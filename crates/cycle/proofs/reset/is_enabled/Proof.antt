@@ -6,12 +6,12 @@ use borrow.Author.Needs.{needs}
 use Rattle.cycle.proofs.reset.is_enabled.Statement.{statement}
 use Rattle.cycle.proofs.reset.is_enabled.Tie as tie
 
-element-copy-out-result : tie.Need-element-copy-out-result
-element-copy-out-result c = search needs
+sample-requires : tie.Need-sample-requires
+sample-requires c κs = search needs
 
 returns : tie.Need-returns
 unfolding enabled bit
-returns c = rw (c .before .pre) refl
+returns c = rw (c .before .pre, c .sample .ensures) refl
 
 pub is-enabled-spec : {M : Type 1} → statement M
-is-enabled-spec = tie.close (tie.spec element-copy-out-result returns)
+is-enabled-spec = tie.close (tie.spec sample-requires returns)

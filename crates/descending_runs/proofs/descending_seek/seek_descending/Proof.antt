@@ -46,14 +46,14 @@ returns c =
     settled-ran (s .args .c) (s .args .trace .now) (s .args .rows .now) (s .args .words .now) (s .args .s) true (at .rows) (at .words) _ (s .pre .3)
     (record { come = at .inv; stopped = λ _. (refl, c .if1 .taken) })
 
-add-frame-at : tie.Need-add-frame-at Inv-loop μ-loop
-add-frame-at c = omega (arith, low c, start c .pre .0 .short)
+add-descending-at : tie.Need-add-descending-at Inv-loop μ-loop
+add-descending-at c = omega (arith, low c, start c .pre .0 .short)
 
-frame-at-requires : tie.Need-frame-at-requires Inv-loop μ-loop
-frame-at-requires c κs = low c
+descending-at-requires : tie.Need-descending-at-requires Inv-loop μ-loop
+descending-at-requires c κs = (start c .pre .0 .good, start c .pre .2, low c)
 
-descending-cycle-requires : tie.Need-descending-cycle-requires Inv-loop μ-loop
-descending-cycle-requires c κs = let l = c .before in (start l .pre .0 .good, start l .pre .1, l .before .before .loop .inv .possible-word, start l .pre .2)
+ports-cycle-requires : tie.Need-ports-cycle-requires Inv-loop μ-loop
+ports-cycle-requires c κs = let l = c .before in (start l .pre .0 .good, start l .pre .1, l .before .before .loop .inv .possible-word)
 
 mul-kept : tie.Need-mul-kept Inv-loop μ-loop
 mul-kept c = let l = c .before .before in omega (arith, low l, start l .pre .0 .short)
@@ -90,11 +90,11 @@ loop-again c =
     let l = c .before .before .before in
     let s = start l in
     let at = l .before .before .loop in
-    let next = c .before .descending-cycle in
+    let next = c .before .ports-cycle in
     rw (add-one (at .at))
     (running-more (s .args .c) (s .args .trace .now) (s .args .rows .now) (s .args .words .now) (settled (s .args .s) true) (ready s) (at .rows) (at .words) (at .at)
     (at .word) (at .kept) (at .inv) (l .before .loop-test .taken) (λ _. l .if1 .left) (next .result .row) (next .result .word)
-    (rw (c .before .before .frame-at .ensures) at (next .ensures)))
+    (next .ensures _ (c .before .before .descending-at .ensures)))
 
 same-length-3 : tie.Need-same-length-3 Inv-loop μ-loop
 same-length-3 c = c .before .loop .inv .rows-are .same-length
@@ -119,9 +119,9 @@ seek-descending-spec =
     same-length
     same-length-2
     returns
-    add-frame-at
-    frame-at-requires
-    descending-cycle-requires
+    add-descending-at
+    descending-at-requires
+    ports-cycle-requires
     mul-kept
     slice-read-kept
     mul-rows

@@ -1,10 +1,12 @@
 -- `expected::wires::expected_wires` meets its contract: a value is compared from either end. Assumes nothing.
-use Prim.Native.Nat.{ℕ, suc, _-_, _<_}
+use Prim.Native.Nat.{ℕ, suc, _-_, _<_, zero-le}
 use mathlib.Core.Path.{_≡_, refl, sym, _∙_}
 use native.Mathlib.Omega.{arith}
+use lib.Dec.{lit<}
+use lib.Pow.{pow-pos}
 use borrow.Author.Tests.{leb-true, leb-false}
 use Rattle.bits.specs.Bits.{bit, number}
-use Rattle.bits.proofs.Bits.{number-lt}
+use Rattle.bits.proofs.Bits.{number-lt, number-none, bit-past}
 use Rattle.bus.specs.Range.{width}
 use Rattle.bus.proofs.Ranges.{width-le, ascends-width, turned-within, turned-width, turned-compared}
 use Rattle.rules.proofs.Good.{p-within, value-low}
@@ -75,8 +77,12 @@ returns-2 c =
     let t = m .before .before .turned in
     record {
       same = λ wires.
-          c .on-wires2 .ensures wires
+          c .on-wires2 .ensures .0 wires
           ∙ turned-compared (a .p) (t .result) (t .ensures .0) (t .ensures .1) (a .value) (m .masked-ascending .result) (value-low a (s .pre)) (turned-value m) wires;
+      none = λ wires.
+          c .on-wires2 .ensures .1 wires
+          ∙ turned-compared (a .p) (t .result) (t .ensures .0) (t .ensures .1) 0 0 (pow-pos (width (a .p)))
+          (sym (number-none (width (a .p)) (λ k. bit 0 (width (a .p) - 1 - k)) (λ k l. bit-past 0 0 (width (a .p) - 1 - k) (lit< tt) zero-le))) wires;
     }
 
 pub expected-wires-spec : {M : Type 1} → statement M

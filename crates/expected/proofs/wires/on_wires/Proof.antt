@@ -1,7 +1,8 @@
 -- `expected::wires::on_wires` meets its contract. Assumes nothing.
-use Prim.Native.Nat.{_≤_}
+use Prim.Native.Nat.{_^_, _≤_}
+use native.Mathlib.Nat.{zero-mul}
 use native.Mathlib.Omega.{arith}
-use lib.Pow.{pow-mono}
+use lib.Pow.{pow-pos, pow-mono}
 use Rattle.bus.specs.Range.{width}
 use Rattle.bus.proofs.Ranges.{right-low, width-le}
 use Rattle.expected.proofs.Placed.{placed}
@@ -33,7 +34,11 @@ shl-t8 c = let s = c .before .before .before in omega (arith, right-low (s .args
 returns : tie.Need-returns
 returns c =
     let s = c .before .before .before in
-    placed (s .args .port) (s .pre .0) (s .pre .1) (c .low-ones .result) (s .args .value) (rw (c .before .width .ensures) at (c .low-ones .ensures)) (s .pre .2)
+    let p = s .args .port in
+    let ones = rw (c .before .width .ensures) at (c .low-ones .ensures) in (
+      placed p (s .pre .0) (s .pre .1) (c .low-ones .result) (s .args .value) ones (s .pre .2),
+      λ wires. rw (zero-mul (2 ^ p .right)) at (placed p (s .pre .0) (s .pre .1) (c .low-ones .result) 0 ones (pow-pos (width p)) wires),
+    )
 
 pub on-wires-spec : {M : Type 1} → statement M
 on-wires-spec =

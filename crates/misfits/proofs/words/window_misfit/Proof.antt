@@ -2,7 +2,6 @@
 -- and the cycles left of each. Assumes nothing.
 use Prim.Native.Nat.{_-_, _*_, _^_}
 use mathlib.Core.Path.{_≡_, _∙_}
-use mathlib.Core.Logic.{⊎-elim}
 use native.Mathlib.Omega.{arith}
 use lib.Dec.{eqb}
 use lib.Pow.{pow-pos, pow-add}
@@ -17,26 +16,22 @@ use Rattle.misfits.proofs.words.window_misfit.Statement.{statement}
 use Rattle.misfits.proofs.words.window_misfit.Tie as tie
 
 abbrev start : tie.After-low-ones → tie.Start
-start c = c .before .before .before .before .before
+start c = c .before .before .before
 
 -- the highest reference, with as many cycles left as 16 bits hold
 highest : (c : tie.After-low-ones) → c .low-ones .result ≡ 2 ^ width (start c .args .c .p) * 2 ^ 16 - 1
 highest c = rw (c .before .width .ensures, pow-add 2 (width (start c .args .c .p)) 16) at (c .low-ones .ensures)
-
--- how far down a word without a reference has bits
-without : (c : tie.Joined1) → (c .before .before .before .args .c .min ≡ 0 → c .if1 .bits ≡ 0) × ((c .before .before .before .args .c .min ≡ 0 → ⊥) → c .if1 .bits ≡ 16)
-without c = ⊎-elim (λ w. (λ _. w .1, λ h. absurd (h (w .0 .taken)))) (λ w. (λ z. absurd (w .0 .left z), λ _. w .1)) (c .if1 .came)
 
 width-requires : tie.Need-width-requires
 width-requires c κs = search needs
 
 add-low-ones : tie.Need-add-low-ones
 add-low-ones c =
-    let s = c .before .before .before .before in omega (arith, c .width .ensures, width-le (s .args .c .p) (p-within (s .args .c) (s .pre .0)))
+    let s = c .before .before in omega (arith, c .width .ensures, width-le (s .args .c .p) (p-within (s .args .c) (s .pre .0)))
 
 low-ones-requires : tie.Need-low-ones-requires
 low-ones-requires c κs =
-    let s = c .before .before .before .before in omega (arith, c .width .ensures, width-le (s .args .c .p) (p-within (s .args .c) (s .pre .0)))
+    let s = c .before .before in omega (arith, c .width .ensures, width-le (s .args .c .p) (p-within (s .args .c) (s .pre .0)))
 
 add-limit : tie.Need-add-limit
 add-limit c = omega (arith, highest c, width-room (start c .args .c) (start c .pre .0))
@@ -45,8 +40,7 @@ above-requires : tie.Need-above-requires
 above-requires c κs = omega (arith, highest c, width-room (start c .args .c) (start c .pre .0), pow-pos (width (start c .args .c .p)))
 
 untagged-requires : tie.Need-untagged-requires
-untagged-requires c κs =
-    let j = c .before .before .before in ⊎-elim (λ w. omega (arith, w .1)) (λ w. omega (arith, w .1)) (j .if1 .came)
+untagged-requires c κs = search needs
 
 cycles-misfit-requires : tie.Need-cycles-misfit-requires
 cycles-misfit-requires c κs =
@@ -59,9 +53,8 @@ returns c =
     let s = start (d .before) in
     let a = s .args in
     let k = stability-config (a .c) (s .pre .0) (s .pre .1) in
-    let bits = without (d .before .before .before) in
     rw (or-zero _ (c .cycles-misfit .result), or-zero (d .above .result) (c .before .untagged .result), d .above .ensures, highest (d .before))
-    (window-is (a .word) (2 ^ width (a .c .p)) (a .c .n) (a .c .min) (d .before .before .before .if1 .bits) (pow-pos (width (a .c .p))) (width-room (a .c) (s .pre .0)) (omega (arith, k)) (omega (arith, k)) (bits .0) (bits .1)
+    (window-is (a .word) (2 ^ width (a .c .p)) (a .c .n) (a .c .min) (pow-pos (width (a .c .p))) (width-room (a .c) (s .pre .0)) (omega (arith, k)) (omega (arith, k))
     (eqb (c .before .untagged .result) 0) (eqb (c .cycles-misfit .result) 0) (c .before .untagged .ensures) (c .cycles-misfit .ensures)
     ∙ possible-are (a .c) (a .word) stability (s .pre .1))
 

@@ -37,14 +37,14 @@ loop-holds c =
     let s = c .before .before .before .before .before in
     filling-none (s .args .c) (s .args .trace .now) (s .args .rows .now) (s .args .words .now) (settled (s .args .s) false) (ready s) refl
 
-add-frame-at : tie.Need-add-frame-at Inv-loop μ-loop
-add-frame-at c = omega (arith, low c, start c .pre .0 .short)
+add-events-at : tie.Need-add-events-at Inv-loop μ-loop
+add-events-at c = omega (arith, low c, start c .pre .0 .short)
 
-frame-at-requires : tie.Need-frame-at-requires Inv-loop μ-loop
-frame-at-requires c κs = low c
+events-at-requires : tie.Need-events-at-requires Inv-loop μ-loop
+events-at-requires c κs = (start c .pre .0 .good, start c .pre .1 .0, low c)
 
-sequence-cycle-requires : tie.Need-sequence-cycle-requires Inv-loop μ-loop
-sequence-cycle-requires c κs = let l = c .before in (start l .pre .0 .good, start l .pre .1, l .before .loop .inv .possible-word)
+events-cycle-requires : tie.Need-events-cycle-requires Inv-loop μ-loop
+events-cycle-requires c κs = let l = c .before in (start l .pre .0 .good, start l .pre .1, l .before .loop .inv .possible-word, c .events-at .ensures .1)
 
 mul-rows : tie.Need-mul-rows Inv-loop μ-loop
 mul-rows c = let l = c .before .before in omega (arith, low l, start l .pre .0 .short)
@@ -69,10 +69,10 @@ loop-again c =
     let l = c .before .before in
     let s = start l in
     let at = l .before .loop in
-    let next = c .sequence-cycle in
+    let next = c .events-cycle in
     rw (add-one (at .at))
     (filling-more (s .args .c) (s .args .trace .now) (s .args .rows .now) (s .args .words .now) (settled (s .args .s) false) (ready s) refl (at .rows) (at .words)
-    (at .at) (at .word) (at .inv) (l .loop-test .taken) (next .result .row) (next .result .word) (rw (c .before .frame-at .ensures) at (next .ensures)))
+    (at .at) (at .word) (at .inv) (l .loop-test .taken) (next .result .row) (next .result .word) (next .ensures _ (c .before .events-at .ensures .0)))
 
 same-length : tie.Need-same-length Inv-loop μ-loop
 same-length c = c .before .loop .inv .rows-are .same-length
@@ -98,9 +98,9 @@ fill-sequence-spec =
     μ-loop
     kept-at-end-requires
     loop-holds
-    add-frame-at
-    frame-at-requires
-    sequence-cycle-requires
+    add-events-at
+    events-at-requires
+    events-cycle-requires
     mul-rows
     slice-write-rows
     mul-words

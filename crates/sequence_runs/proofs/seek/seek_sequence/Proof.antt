@@ -46,14 +46,14 @@ returns c =
     settled-ran (s .args .c) (s .args .trace .now) (s .args .rows .now) (s .args .words .now) (s .args .s) true (at .rows) (at .words) _ (s .pre .2)
     (record { come = at .inv; stopped = λ _. (refl, c .if1 .taken) })
 
-add-frame-at : tie.Need-add-frame-at Inv-loop μ-loop
-add-frame-at c = omega (arith, low c, start c .pre .0 .short)
+add-events-at : tie.Need-add-events-at Inv-loop μ-loop
+add-events-at c = omega (arith, low c, start c .pre .0 .short)
 
-frame-at-requires : tie.Need-frame-at-requires Inv-loop μ-loop
-frame-at-requires c κs = low c
+events-at-requires : tie.Need-events-at-requires Inv-loop μ-loop
+events-at-requires c κs = (start c .pre .0 .good, start c .pre .1 .0, low c)
 
-sequence-cycle-requires : tie.Need-sequence-cycle-requires Inv-loop μ-loop
-sequence-cycle-requires c κs = let l = c .before in (start l .pre .0 .good, start l .pre .1, l .before .before .loop .inv .possible-word)
+events-cycle-requires : tie.Need-events-cycle-requires Inv-loop μ-loop
+events-cycle-requires c κs = let l = c .before in (start l .pre .0 .good, start l .pre .1, l .before .before .loop .inv .possible-word, c .events-at .ensures .1)
 
 mul-kept : tie.Need-mul-kept Inv-loop μ-loop
 mul-kept c = let l = c .before .before in omega (arith, low l, start l .pre .0 .short)
@@ -90,11 +90,11 @@ loop-again c =
     let l = c .before .before .before in
     let s = start l in
     let at = l .before .before .loop in
-    let next = c .before .sequence-cycle in
+    let next = c .before .events-cycle in
     rw (add-one (at .at))
     (running-more (s .args .c) (s .args .trace .now) (s .args .rows .now) (s .args .words .now) (settled (s .args .s) true) (ready s) (at .rows) (at .words) (at .at)
     (at .word) (at .kept) (at .inv) (l .before .loop-test .taken) (λ _. l .if1 .left) (next .result .row) (next .result .word)
-    (rw (c .before .before .frame-at .ensures) at (next .ensures)))
+    (next .ensures _ (c .before .before .events-at .ensures .0)))
 
 same-length-3 : tie.Need-same-length-3 Inv-loop μ-loop
 same-length-3 c = c .before .loop .inv .rows-are .same-length
@@ -119,9 +119,9 @@ seek-sequence-spec =
     same-length
     same-length-2
     returns
-    add-frame-at
-    frame-at-requires
-    sequence-cycle-requires
+    add-events-at
+    events-at-requires
+    events-cycle-requires
     mul-kept
     slice-read-kept
     mul-rows

@@ -5,12 +5,14 @@ use mathlib.Core.Bool.{true, false, not, _&&_}
 use native.Mathlib.Omega.{arith}
 use lib.Dec.{eqb, leb}
 use borrow.Author.Tests.{le-leb}
-use Rattle.rules.specs.Frame.{enabled, P}
+use Rattle.rules.specs.declared.frame.Frame.{Frame}
+use Rattle.rules.specs.Frame.{enabled, P, knownP}
 use Rattle.rules.specs.Rules.{rowOf, windowMarks}
 use Rattle.rules.specs.Step.{leftIn, referenceIn}
 use Rattle.rules.proofs.Good.{stability-config}
 use Rattle.rules.proofs.TriggerWords.{WordParts, word-parts}
 use Rattle.trigger.proofs.TriggerCode.{compared-steps, compared-row, last-left, word-before, no-trigger, open-window, left-of}
+use Rattle.stability.specs.Tracked.{Reads}
 use borrow.Author.Needs.{needs}
 use Rattle.stability.proofs.step.compared_step.Statement.{statement}
 use Rattle.stability.proofs.step.compared_step.Tie as tie
@@ -20,7 +22,7 @@ low : (s : tie.Start) → s .args .c .min ≤ s .args .c .n
 low s = stability-config (s .args .c) (s .pre .0) (s .pre .1) .low
 
 some : (s : tie.Start) → 0 < s .args .word
-some s = omega (arith, s .pre .4)
+some s = omega (arith, s .pre .3)
 
 parts : (s : tie.Start) → WordParts (s .args .c) (s .args .word)
 parts s = word-parts (s .args .c) (s .args .word) (s .pre .1) (stability-config (s .args .c) (s .pre .0) (s .pre .1) .high) (s .pre .2)
@@ -29,48 +31,48 @@ left : (s : tie.Start) → 0 < leftIn (s .args .word)
 left s = parts s .some-left (some s)
 
 tested : (s : tie.Start) → leb (leftIn (s .args .word) - 1) (s .args .c .n - s .args .c .min) ≡ true
-tested s = le-leb (leftIn (s .args .word) - 1) (s .args .c .n - s .args .c .min) (omega (arith, parts s .compared-low (s .pre .4)))
+tested s = le-leb (leftIn (s .args .word) - 1) (s .args .c .n - s .args .c .min) (omega (arith, parts s .compared-low (s .pre .3)))
 
 -- the row says whether the reference differs, and whether this is the last cycle
 abbrev start : tie.After-window-row → tie.Start
 start r = r .before .before
 
-row-is : (r : tie.After-window-row) → r .window-row .result
+row-is : (r : tie.After-window-row) (f : Frame) → Reads (start r .args .c) f (start r .args .t) → r .window-row .result
     ≡ rowOf
-    (windowMarks (enabled (start r .args .frame) && not (eqb (P (start r .args .c) (start r .args .frame)) (referenceIn (start r .args .word)))) false
-    (eqb (leftIn (start r .args .word) - 1) 0))
-row-is r =
+    (windowMarks (enabled f && knownP (start r .args .c) f && not (eqb (P (start r .args .c) f) (referenceIn (start r .args .word)))) false
+    (eqb (leftIn (start r .args .word) - 1) 0) (enabled f && not (knownP (start r .args .c) f)))
+row-is r f reads =
     let s = start r in
-    compared-row (s .args .c) (s .args .word) (s .args .frame) (s .pre .4) (left s) (r .before .is-enabled .result) (s .args .tracked) (r .window-row .result)
-    (r .before .is-enabled .ensures) (s .pre .3) (r .window-row .ensures)
+    compared-row (s .args .c) (s .args .word) f (s .pre .3) (left s) (s .args .t .enabled) (s .args .t .known) (s .args .t .value) (r .window-row .result)
+    (reads .enabled-is) (reads .known-is) (reads .value-is) (r .window-row .ensures)
+
+cast-changed : tie.Need-cast-changed
+cast-changed c = search needs
 
 add-changed : tie.Need-add-changed
 add-changed c = search needs
 
-is-enabled-requires : tie.Need-is-enabled-requires
-is-enabled-requires c κs = search needs
-
 window-row-requires : tie.Need-window-row-requires
 window-row-requires c κs = search needs
 
-sub-t15 : tie.Need-sub-t15
-sub-t15 c = search needs
+sub-t18 : tie.Need-sub-t18
+sub-t18 c = search needs
 
 returns : tie.Need-returns
-returns c =
+returns c = λ f reads.
     let s = c .before .before .before in
-    compared-steps (s .args .c) (s .args .word) (s .args .frame) (low s) (leftIn (s .args .word) - 1) false (no-trigger _ _ _ (some s)) (open-window _ _ _ (some s))
-    (left-of _ _ _ (some s) (leftIn (s .args .word))) (le-leb (2 ^ 48) (s .args .word) (s .pre .4)) (tested s) (c .before .window-row .result) 0 (row-is (c .before))
+    compared-steps (s .args .c) (s .args .word) f (low s) (leftIn (s .args .word) - 1) false (no-trigger _ _ _ (some s)) (open-window _ _ _ (some s))
+    (left-of _ _ _ (some s) (leftIn (s .args .word))) (le-leb (2 ^ 48) (s .args .word) (s .pre .3)) (tested s) (c .before .window-row .result) 0 (row-is (c .before) f reads)
     (rw (sym (last-left _ (left s)) ∙ c .if1 .taken) refl)
 
 returns-2 : tie.Need-returns-2
-returns-2 c =
+returns-2 c = λ f reads.
     let s = c .before .before .before in
-    compared-steps (s .args .c) (s .args .word) (s .args .frame) (low s) (leftIn (s .args .word) - 1) false (no-trigger _ _ _ (some s)) (open-window _ _ _ (some s))
-    (left-of _ _ _ (some s) (leftIn (s .args .word))) (le-leb (2 ^ 48) (s .args .word) (s .pre .4)) (tested s) (c .before .window-row .result) (s .args .word - 1) (row-is (c .before))
-    (rw (sym (last-left _ (left s)) ∙ c .if1 .left) (word-before (s .args .word) (s .pre .4) (left s)))
+    compared-steps (s .args .c) (s .args .word) f (low s) (leftIn (s .args .word) - 1) false (no-trigger _ _ _ (some s)) (open-window _ _ _ (some s))
+    (left-of _ _ _ (some s) (leftIn (s .args .word))) (le-leb (2 ^ 48) (s .args .word) (s .pre .3)) (tested s) (c .before .window-row .result) (s .args .word - 1) (row-is (c .before) f reads)
+    (rw (sym (last-left _ (left s)) ∙ c .if1 .left) (word-before (s .args .word) (s .pre .3) (left s)))
 
 pub compared-step-spec : {M : Type 1} → statement M
 compared-step-spec =
     tie.close
-    (tie.spec add-changed is-enabled-requires window-row-requires sub-t15 returns returns-2)
+    (tie.spec cast-changed add-changed window-row-requires sub-t18 returns returns-2)

@@ -43,14 +43,21 @@ loop-holds c =
     let s = c .before .before .before .before .before in
     (filling-none (fatally (s .args .c)) (s .args .trace .now) (s .args .rows .now) (s .args .words .now) (settled (s .args .s) false) (ready s) refl, s .pre .2)
 
-add-frame-at : tie.Need-add-frame-at Inv-loop μ-loop
-add-frame-at c = omega (arith, low c, start c .pre .0 .short)
+add-tracked-at : tie.Need-add-tracked-at Inv-loop μ-loop
+add-tracked-at c = omega (arith, low c, start c .pre .0 .short)
 
-frame-at-requires : tie.Need-frame-at-requires Inv-loop μ-loop
-frame-at-requires c κs = low c
+tracked-at-requires : tie.Need-tracked-at-requires Inv-loop μ-loop
+tracked-at-requires c κs =
+    let l = c in
+    let s = start l in
+    let at = l .before .loop in
+    let done =
+    watch-ready (s .args .c) (s .pre .1 .1) (s .args .trace .now) (s .args .rows .now) (s .args .words .now) (settled (s .args .s) false) (ready s) (at .rows) (at .words)
+    (at .at) (at .word) (keptFrom (s .args .words .now) (s .args .s .at) (s .args .s .kept) (at .at)) (at .inv .0) (at .inv .1) in
+    (done .0, s .pre .1 .0, low l)
 
-stability-cycle-requires : tie.Need-stability-cycle-requires Inv-loop μ-loop
-stability-cycle-requires c κs =
+tracked-cycle-requires : tie.Need-tracked-cycle-requires Inv-loop μ-loop
+tracked-cycle-requires c κs =
     let l = c .before in
     let s = start l in
     let at = l .before .loop in
@@ -93,11 +100,11 @@ returns c =
     let l = c .before .before .before .before .before in
     let s = start l in
     let at = l .before .loop in
-    let next = c .before .before .before .stability-cycle in
+    let next = c .before .before .before .tracked-cycle in
     let come =
     fill-fails (s .args .c) (s .pre .1 .1) (s .args .trace .now) (s .args .rows .now) (s .args .words .now) (settled (s .args .s) false) (ready s) refl (at .rows) (at .words)
     (at .at) (at .word) (at .inv .0) (at .inv .1) (l .loop-test .taken) (next .result .row) (next .result .word)
-    (rw (c .before .before .before .before .frame-at .ensures) at (next .ensures)) (sym (c .before .before .fails .ensures) ∙ c .before .if1 .taken) in
+    (next .ensures _ (c .before .before .before .before .tracked-at .ensures)) (sym (c .before .before .fails .ensures) ∙ c .before .if1 .taken) in
     settled-watched (s .pre .3) (record { come = rw (add-one (at .at)) come; ended = λ other _. absurd (other refl) })
 
 same-length : tie.Need-same-length Inv-loop μ-loop
@@ -125,11 +132,11 @@ loop-again c =
     let l = c .before .before .before .before in
     let s = start l in
     let at = l .before .loop in
-    let next = c .before .before .stability-cycle in
+    let next = c .before .before .tracked-cycle in
     rw (add-one (at .at))
     (fill-goes-on (s .args .c) (s .pre .1 .1) (s .args .trace .now) (s .args .rows .now) (s .args .words .now) (settled (s .args .s) false) (ready s) refl (at .rows) (at .words)
     (at .at) (at .word) (at .inv .0) (at .inv .1) (l .loop-test .taken) (next .result .row) (next .result .word)
-    (rw (c .before .before .before .frame-at .ensures) at (next .ensures)) (sym (c .before .fails .ensures) ∙ c .if1 .left))
+    (next .ensures _ (c .before .before .before .tracked-at .ensures)) (sym (c .before .fails .ensures) ∙ c .if1 .left))
 
 same-length-3 : tie.Need-same-length-3 Inv-loop μ-loop
 same-length-3 c = c .before .loop .inv .0 .rows-are .same-length
@@ -156,9 +163,9 @@ fill-spec =
     μ-loop
     kept-at-end-requires
     loop-holds
-    add-frame-at
-    frame-at-requires
-    stability-cycle-requires
+    add-tracked-at
+    tracked-at-requires
+    tracked-cycle-requires
     mul-rows
     slice-write-rows
     fails-requires

@@ -51,14 +51,21 @@ returns c =
     let s = c .before .before .before .before .before .before in
     settled-watched (s .pre .3) (record { come = at .inv .0; ended = λ _ _. (refl, c .if1 .taken) })
 
-add-frame-at : tie.Need-add-frame-at Inv-loop μ-loop
-add-frame-at c = omega (arith, low c, start c .pre .0 .short)
+add-tracked-at : tie.Need-add-tracked-at Inv-loop μ-loop
+add-tracked-at c = omega (arith, low c, start c .pre .0 .short)
 
-frame-at-requires : tie.Need-frame-at-requires Inv-loop μ-loop
-frame-at-requires c κs = low c
+tracked-at-requires : tie.Need-tracked-at-requires Inv-loop μ-loop
+tracked-at-requires c κs =
+    let l = c in
+    let s = start l in
+    let at = l .before .before .loop in
+    let ready =
+    watch-ready (s .args .c) (s .pre .1 .1) (s .args .trace .now) (s .args .rows .now) (s .args .words .now) (settled (s .args .s) true) (ready s) (at .rows) (at .words) (at .at)
+    (at .word) (at .kept) (at .inv .0) (at .inv .1) in
+    (ready .0, s .pre .1 .0, low l)
 
-stability-cycle-requires : tie.Need-stability-cycle-requires Inv-loop μ-loop
-stability-cycle-requires c κs =
+tracked-cycle-requires : tie.Need-tracked-cycle-requires Inv-loop μ-loop
+tracked-cycle-requires c κs =
     let l = c .before in
     let s = start l in
     let at = l .before .before .loop in
@@ -102,11 +109,11 @@ returns-2 c =
     let l = c .before .before .before .before .before in
     let s = start l in
     let at = l .before .before .loop in
-    let next = c .before .before .before .stability-cycle in
+    let next = c .before .before .before .tracked-cycle in
     let come =
     watch-fails (s .args .c) (s .pre .1 .1) (s .args .trace .now) (s .args .rows .now) (s .args .words .now) (settled (s .args .s) true) (ready s) (at .rows) (at .words) (at .at) (at .word)
     (at .kept) (at .inv .0) (at .inv .1) (l .before .loop-test .taken) (λ _. l .if1 .left) (next .result .row) (next .result .word)
-    (rw (c .before .before .before .before .frame-at .ensures) at (next .ensures))
+    (next .ensures _ (c .before .before .before .before .tracked-at .ensures))
     (sym (c .before .fails .ensures) ∙ c .if2 .taken) in
     settled-watched (s .pre .3) (record { come = rw (add-one (at .at)) come; ended = λ other _. absurd (other refl) })
 
@@ -135,11 +142,11 @@ loop-again c =
     let l = c .before .before .before .before .before in
     let s = start l in
     let at = l .before .before .loop in
-    let next = c .before .before .before .stability-cycle in
+    let next = c .before .before .before .tracked-cycle in
     rw (add-one (at .at))
     (watch-goes-on (s .args .c) (s .pre .1 .1) (s .args .trace .now) (s .args .rows .now) (s .args .words .now) (settled (s .args .s) true) (ready s) (at .rows) (at .words) (at .at) (at .word)
     (at .kept) (at .inv .0) (at .inv .1) (l .before .loop-test .taken) (λ _. l .if1 .left) (next .result .row) (next .result .word)
-    (rw (c .before .before .before .before .frame-at .ensures) at (next .ensures))
+    (next .ensures _ (c .before .before .before .before .tracked-at .ensures))
     (sym (c .before .fails .ensures) ∙ c .if2 .left))
 
 same-length-5 : tie.Need-same-length-5 Inv-loop μ-loop
@@ -163,9 +170,9 @@ seek-spec =
     same-length
     same-length-2
     returns
-    add-frame-at
-    frame-at-requires
-    stability-cycle-requires
+    add-tracked-at
+    tracked-at-requires
+    tracked-cycle-requires
     mul-kept
     slice-read-kept
     mul-rows

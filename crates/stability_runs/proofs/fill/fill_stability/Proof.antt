@@ -37,14 +37,14 @@ loop-holds c =
     let s = c .before .before .before .before .before in
     filling-none (s .args .c) (s .args .trace .now) (s .args .rows .now) (s .args .words .now) (settled (s .args .s) false) (ready s) refl
 
-add-frame-at : tie.Need-add-frame-at Inv-loop μ-loop
-add-frame-at c = omega (arith, low c, start c .pre .0 .short)
+add-tracked-at : tie.Need-add-tracked-at Inv-loop μ-loop
+add-tracked-at c = omega (arith, low c, start c .pre .0 .short)
 
-frame-at-requires : tie.Need-frame-at-requires Inv-loop μ-loop
-frame-at-requires c κs = low c
+tracked-at-requires : tie.Need-tracked-at-requires Inv-loop μ-loop
+tracked-at-requires c κs = (start c .pre .0 .good, start c .pre .1 .0, low c)
 
-stability-cycle-requires : tie.Need-stability-cycle-requires Inv-loop μ-loop
-stability-cycle-requires c κs = let l = c .before in (start l .pre .0 .good, start l .pre .1, l .before .loop .inv .possible-word)
+tracked-cycle-requires : tie.Need-tracked-cycle-requires Inv-loop μ-loop
+tracked-cycle-requires c κs = let l = c .before in (start l .pre .0 .good, start l .pre .1, l .before .loop .inv .possible-word)
 
 mul-rows : tie.Need-mul-rows Inv-loop μ-loop
 mul-rows c = let l = c .before .before in omega (arith, low l, start l .pre .0 .short)
@@ -69,10 +69,10 @@ loop-again c =
     let l = c .before .before in
     let s = start l in
     let at = l .before .loop in
-    let next = c .stability-cycle in
+    let next = c .tracked-cycle in
     rw (add-one (at .at))
     (filling-more (s .args .c) (s .args .trace .now) (s .args .rows .now) (s .args .words .now) (settled (s .args .s) false) (ready s) refl (at .rows) (at .words)
-    (at .at) (at .word) (at .inv) (l .loop-test .taken) (next .result .row) (next .result .word) (rw (c .before .frame-at .ensures) at (next .ensures)))
+    (at .at) (at .word) (at .inv) (l .loop-test .taken) (next .result .row) (next .result .word) (next .ensures _ (c .before .tracked-at .ensures)))
 
 same-length : tie.Need-same-length Inv-loop μ-loop
 same-length c = c .before .loop .inv .rows-are .same-length
@@ -98,9 +98,9 @@ fill-stability-spec =
     μ-loop
     kept-at-end-requires
     loop-holds
-    add-frame-at
-    frame-at-requires
-    stability-cycle-requires
+    add-tracked-at
+    tracked-at-requires
+    tracked-cycle-requires
     mul-rows
     slice-write-rows
     mul-words

@@ -46,14 +46,14 @@ returns c =
     settled-ran (s .args .c) (s .args .trace .now) (s .args .rows .now) (s .args .words .now) (s .args .s) true (at .rows) (at .words) _ (s .pre .2)
     (record { come = at .inv; stopped = λ _. (refl, c .if1 .taken) })
 
-add-frame-at : tie.Need-add-frame-at Inv-loop μ-loop
-add-frame-at c = omega (arith, low c, start c .pre .0 .short)
+add-ports-at : tie.Need-add-ports-at Inv-loop μ-loop
+add-ports-at c = omega (arith, low c, start c .pre .0 .short)
 
-frame-at-requires : tie.Need-frame-at-requires Inv-loop μ-loop
-frame-at-requires c κs = low c
+ports-at-requires : tie.Need-ports-at-requires Inv-loop μ-loop
+ports-at-requires c κs = (start c .pre .0 .good, low c)
 
-transition-cycle-requires : tie.Need-transition-cycle-requires Inv-loop μ-loop
-transition-cycle-requires c κs = let l = c .before in (start l .pre .0 .good, start l .pre .1, l .before .before .loop .inv .possible-word)
+ports-cycle-requires : tie.Need-ports-cycle-requires Inv-loop μ-loop
+ports-cycle-requires c κs = let l = c .before in (start l .pre .0 .good, start l .pre .1, l .before .before .loop .inv .possible-word)
 
 mul-kept : tie.Need-mul-kept Inv-loop μ-loop
 mul-kept c = let l = c .before .before in omega (arith, low l, start l .pre .0 .short)
@@ -90,11 +90,11 @@ loop-again c =
     let l = c .before .before .before in
     let s = start l in
     let at = l .before .before .loop in
-    let next = c .before .transition-cycle in
+    let next = c .before .ports-cycle in
     rw (add-one (at .at))
     (running-more (s .args .c) (s .args .trace .now) (s .args .rows .now) (s .args .words .now) (settled (s .args .s) true) (ready s) (at .rows) (at .words) (at .at)
     (at .word) (at .kept) (at .inv) (l .before .loop-test .taken) (λ _. l .if1 .left) (next .result .row) (next .result .word)
-    (rw (c .before .before .frame-at .ensures) at (next .ensures)))
+    (next .ensures _ (c .before .before .ports-at .ensures)))
 
 same-length-3 : tie.Need-same-length-3 Inv-loop μ-loop
 same-length-3 c = c .before .loop .inv .rows-are .same-length
@@ -119,9 +119,9 @@ seek-transition-spec =
     same-length
     same-length-2
     returns
-    add-frame-at
-    frame-at-requires
-    transition-cycle-requires
+    add-ports-at
+    ports-at-requires
+    ports-cycle-requires
     mul-kept
     slice-read-kept
     mul-rows

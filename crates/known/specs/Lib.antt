@@ -1,0 +1,3 @@
+-- The rules before unknown bits, and what the claim says of them.
+pub mod Known
+pub mod Claims
