@@ -5,7 +5,8 @@ use rules::STOPPED;
 use trace::Reached;
 use trace::Stretch;
 use transition::descending_at;
-use transition::ports_cycle;
+use transition::known_at;
+use transition::values_cycle;
 ghost use mathlib.Core.Bool.{true};
 ghost use mathlib.Core.Path.{_≡_};
 ghost use Rattle.rules.specs.Config.{GoesOn, fatally};
@@ -28,7 +29,8 @@ pub fn seek(c: Config, trace: &[u32], rows: &mut [u32], words: &mut [u64], s: St
         if word == kept {
             return Reached { at, word, kept };
         }
-        let next = ports_cycle(c, word, descending_at(c, trace, from + at));
+        let t = from + at;
+        let next = values_cycle(c, word, descending_at(c, trace, t), known_at(c, trace, t));
         kept = words[at];
         rows[at] = next.row;
         if fails(next.row) {

@@ -4,7 +4,8 @@ use trace::Reached;
 use trace::Stretch;
 use trace::kept_at_end;
 use transition::descending_at;
-use transition::ports_cycle;
+use transition::known_at;
+use transition::values_cycle;
 ghost use mathlib.Core.Bool.{false};
 ghost use mathlib.Core.Path.{_≡_};
 ghost use Rattle.rules.specs.Config.{GoesOn};
@@ -30,7 +31,8 @@ pub fn fill_descending(
     let kept = s.kept;
     let last = kept_at_end(words, at, to, kept);
     while at < to {
-        let next = ports_cycle(c, word, descending_at(c, trace, from + at));
+        let t = from + at;
+        let next = values_cycle(c, word, descending_at(c, trace, t), known_at(c, trace, t));
         word = next.word;
         rows[at] = next.row;
         words[at] = word;

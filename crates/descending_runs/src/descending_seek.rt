@@ -3,7 +3,8 @@ use rules::Config;
 use trace::Reached;
 use trace::Stretch;
 use transition::descending_at;
-use transition::ports_cycle;
+use transition::known_at;
+use transition::values_cycle;
 ghost use mathlib.Core.Bool.{true};
 ghost use mathlib.Core.Path.{_≡_};
 ghost use Rattle.rules.specs.Config.{GoesOn};
@@ -31,7 +32,8 @@ pub fn seek_descending(
         if word == kept {
             return Reached { at, word, kept };
         }
-        let next = ports_cycle(c, word, descending_at(c, trace, from + at));
+        let t = from + at;
+        let next = values_cycle(c, word, descending_at(c, trace, t), known_at(c, trace, t));
         kept = words[at];
         word = next.word;
         rows[at] = next.row;

@@ -3,4 +3,3 @@ mod wires;
 
 pub use wires::Expected;
 pub use wires::expected_wires;
-pub use wires::on_wires;

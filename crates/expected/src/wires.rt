@@ -30,7 +30,7 @@ pub fn expected_wires(c: Config) -> Expected
 }
 
 // A value on the wires of a port that is declared descending.
-pub fn on_wires(port: Range, value: u32) -> Expected
+fn on_wires(port: Range, value: u32) -> Expected
     requires { ⌜ (T (within port)) × (port .right ≤ port .left) × (value < 2 ^ width port) ⌝ }
     ensures { λ r. ⌜ ((wires : ℕ) → eqb (bitAnd wires (r .mask)) (r .wires) ≡ eqb (valueOf port wires) value) ⌝ }
     ensures { λ r. ⌜ ((wires : ℕ) → eqb (bitAnd wires (r .mask)) 0 ≡ eqb (valueOf port wires) 0) ⌝ }

@@ -1,12 +1,16 @@
 -- What the code of kind 6 computes, as the step's definition has it. Assumes nothing.
-use Prim.Native.Nat.{ℕ, _+_, _-_, _^_}
+use Prim.Native.Nat.{ℕ, _+_, _-_, _^_, _<_, zero-le}
 use mathlib.Core.Path.{_≡_, refl, sym, ap, subst, _∙_}
-use mathlib.Core.Bool.{Bool, true, false, not, _&&_, _||_, cond}
+use mathlib.Core.Bool.{Bool, true, false, not, _&&_, _||_, cond, and-true}
 use mathlib.Core.Logic.{⊎-elim}
 use native.Mathlib.Omega.{arith}
-use lib.Dec.{T, eqb, leb, ltb, leb→le, eqb→eq}
+use lib.Dec.{T, eqb, leb, ltb, leb→le, eqb→eq, lit<}
 use borrow.Author.Tests.{lt-ltb, eq-eqb, ne-eqb, eqb-true, eqb-false}
-use Rattle.bus.specs.Range.{width, valueOf}
+use lib.Bits.{bitOr, or-add-and, and-le-l, and-le-r}
+use Rattle.bits.specs.Bits.{bit, number, without}
+use Rattle.bits.proofs.Bits.{bit-number, bit-past, bit-without, number-ext}
+use Rattle.bus.specs.Range.{width, wireOf, valueOf}
+use Rattle.bus.proofs.Wires.{value-zero}
 use Rattle.bus.specs.declared.range.Range.{Range}
 use Rattle.bits.proofs.Tests.{either, of-true, iff-eq, and-left, or-cases}
 use Rattle.rules.specs.declared.config.Config.{Config}
@@ -18,10 +22,22 @@ use Rattle.rules.specs.Transition.{startState}
 use Rattle.rules.specs.Step.{pends, stepMarksOf, stepOpenOf}
 use Rattle.rules.specs.Possible.{possibleOf, goingPossible}
 use Rattle.rules.proofs.Good.{possible-are}
-use Rattle.transition.specs.Ports.{Holds}
-use Rattle.transition.specs.declared.step.Ports.{Ports}
+use Rattle.rules.specs.Frame.{P, Q, R, knownP, knownQ, knownR}
+use Rattle.transition.specs.Ports.{Holds, Tells}
+use Rattle.transition.specs.declared.step.Known.{Known}
+use Rattle.transition.specs.declared.step.Values.{Values}
+
+-- of two words none has a one
+pub none-left : (a b : ℕ) → bitOr a b ≡ 0 → a ≡ 0
+none-left a b e = omega (arith, or-add-and a b, and-le-r a b, e)
+
+pub none-right : (a b : ℕ) → bitOr a b ≡ 0 → b ≡ 0
+none-right a b e = omega (arith, or-add-and a b, and-le-l a b, e)
 
 -- a port that has no unknown bit is known
+pub none-known : (r : Range) (x : ℕ) → x ≡ 0 → true ≡ eqb (valueOf r x) 0
+none-known r x e = rw (e, value-zero r) refl
+
 pub known-is : (r : Range) (x : ℕ) (b : Bool) → b ≡ not (eqb (valueOf r x) 0) → not b ≡ eqb (valueOf r x) 0
 known-is r x b e = ap not e ∙ twice (eqb (valueOf r x) 0)
   where
@@ -53,23 +69,52 @@ module _ (c : Config) (w : ℕ) (f : Frame) where
   pends-is =
       ⊎-elim (λ (e : eqb w 0 ≡ true). rw (eqb-true w 0 e) refl) (λ (e : eqb w 0 ≡ false). rw (e, lt-ltb 0 w (omega (arith, eqb-false w 0 e))) refl) (either (eqb w 0))
 
-  -- kind 6, from what the ports hold
-  module _ (fam : family (c .kind) ≡ transition) (h : T (goingPossible c w)) (v : Ports) (holds : Holds c f v) where
+  -- kind 6, from what the ports hold and which are known: the value of one that is not known is not used
+  module _ (fam : family (c .kind) ≡ transition) (h : T (goingPossible c w)) (v : Values) (k : Known) (holds : Holds c f v) (tells : Tells c f k) where
     -- the start that the code sees
     abbrev pub starts : Bool
-    starts = v .«test_known» && v .«start_known» && eqb (v .test) (v .«start_state»)
+    starts = k .test && k .«start_state» && eqb (v .test) (v .«start_state»)
 
     starts-is : starts ≡ startState c f
     unfolding startState
-    starts-is = rw (holds .test-known, holds .start-known, holds .test-is, holds .start-is) refl
+    starts-is = rw (tells .test-known, tells .start-known) (by (knownP c f) (knownQ c f) (holds .test-is) (holds .start-is))
+      where
+        by : (a b : Bool) → (a ≡ true → v .test ≡ P c f) → (b ≡ true → v .«start_state» ≡ Q c f)
+            → (a && b && eqb (v .test) (v .«start_state»)) ≡ (a && b && eqb (P c f) (Q c f))
+        by true true p q = rw (p refl, q refl) refl
+        by true false p q = refl
+        by false b p q = refl
+
+    failure-is : (not (eqb w 0) && (k .test && not (eqb (v .test + 2 ^ 32) w))) ≡ (ltb 0 w && (knownP c f && not (eqb (P c f) (w - 2 ^ 32))))
+    failure-is = stored-part fam h (k .test) (v .test) ∙ rw (tells .test-known) (by (knownP c f) (holds .test-is))
+      where
+        by : (a : Bool) → (a ≡ true → v .test ≡ P c f) → (ltb 0 w && (a && not (eqb (v .test) (w - 2 ^ 32)))) ≡ (ltb 0 w && (a && not (eqb (P c f) (w - 2 ^ 32))))
+        by true p = rw (p refl) refl
+        by false p = refl
 
     pub transition-row : (row : ℕ)
-        → row ≡ rowOf (checkMarks (not (eqb w 0) && (v .«test_known» && not (eqb (v .test + 2 ^ 32) w))) starts ((not (eqb w 0) && not (v .«test_known»)) || (starts && not (v .«next_known»))))
+        → row ≡ rowOf (checkMarks (not (eqb w 0) && (k .test && not (eqb (v .test + 2 ^ 32) w))) starts ((not (eqb w 0) && not (k .test)) || (starts && not (k .«next_state»))))
         → row ≡ rowOf (stepMarksOf c w f transition)
     unfolding stepMarksOf pends
-    transition-row row e =
-        e ∙ rw (starts-is, stored-part fam h (v .«test_known») (v .test), pends-is, holds .test-known, holds .next-known, holds .test-is) refl
+    transition-row row e = e ∙ rw (starts-is, failure-is, pends-is, tells .test-known, tells .next-known) refl
 
-    pub transition-next : (b : Bool) → (starts && v .«next_known») ≡ b → cond b (2 ^ 32 + v .«next_state») 0 ≡ stepOpenOf c w f transition
+    pub transition-next : (b : Bool) → (starts && k .«next_state») ≡ b → cond b (2 ^ 32 + v .«next_state») 0 ≡ stepOpenOf c w f transition
     unfolding stepOpenOf
-    transition-next b e = rw (← e, starts-is, holds .next-known, holds .next-is) refl
+    transition-next b e = rw (← e, starts-is, tells .next-known) (by (startState c f) (knownR c f) (holds .next-is))
+      where
+        by : (a b : Bool) → (b ≡ true → v .«next_state» ≡ R c f) → cond (a && b) (2 ^ 32 + v .«next_state») 0 ≡ cond (a && b) (2 ^ 32 + R c f) 0
+        by true true p = rw (p refl) refl
+        by true false p = refl
+        by false b p = refl
+
+-- a port whose bits are all known reads as its wires do
+pub read-known : (r : Range) (wires unknown : ℕ) → eqb (valueOf r unknown) 0 ≡ true → valueOf r wires ≡ valueOf r (without wires unknown)
+unfolding valueOf
+read-known r wires unknown e =
+    number-ext (width r) (λ k. bit wires (wireOf r k)) (λ k. bit (without wires unknown) (wireOf r k))
+    (λ k l. sym (bit-without wires unknown (wireOf r k) ∙ rw (none k l) (and-true (bit wires (wireOf r k)))))
+  where
+    none : (k : ℕ) → k < width r → bit unknown (wireOf r k) ≡ false
+    none k l =
+        sym (bit-number (width r) (λ i. bit unknown (wireOf r i)) k l)
+        ∙ ap (λ (x : ℕ). bit x k) (eqb-true (number (width r) (λ i. bit unknown (wireOf r i))) 0 e) ∙ bit-past 0 0 k (lit< tt) zero-le

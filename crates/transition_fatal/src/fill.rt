@@ -5,8 +5,9 @@ use rules::STOPPED;
 use trace::Reached;
 use trace::Stretch;
 use trace::kept_at_end;
-use transition::ports_at;
-use transition::ports_cycle;
+use transition::known_at;
+use transition::values_at;
+use transition::values_cycle;
 ghost use mathlib.Core.Bool.{false};
 ghost use mathlib.Core.Path.{_≡_};
 ghost use Rattle.rules.specs.Config.{GoesOn, fatally};
@@ -26,7 +27,8 @@ pub fn fill(c: Config, trace: &[u32], rows: &mut [u32], words: &mut [u64], s: St
     let kept = s.kept;
     let last = kept_at_end(words, at, to, kept);
     while at < to {
-        let next = ports_cycle(c, word, ports_at(c, trace, from + at));
+        let t = from + at;
+        let next = values_cycle(c, word, values_at(c, trace, t), known_at(c, trace, t));
         rows[at] = next.row;
         if fails(next.row) {
             let before = words[at];

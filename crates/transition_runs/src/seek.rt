@@ -2,8 +2,9 @@
 use rules::Config;
 use trace::Reached;
 use trace::Stretch;
-use transition::ports_at;
-use transition::ports_cycle;
+use transition::known_at;
+use transition::values_at;
+use transition::values_cycle;
 ghost use mathlib.Core.Bool.{true};
 ghost use mathlib.Core.Path.{_≡_};
 ghost use Rattle.rules.specs.Config.{GoesOn};
@@ -30,7 +31,8 @@ pub fn seek_transition(
         if word == kept {
             return Reached { at, word, kept };
         }
-        let next = ports_cycle(c, word, ports_at(c, trace, from + at));
+        let t = from + at;
+        let next = values_cycle(c, word, values_at(c, trace, t), known_at(c, trace, t));
         kept = words[at];
         word = next.word;
         rows[at] = next.row;

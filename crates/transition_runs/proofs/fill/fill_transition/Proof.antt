@@ -37,42 +37,45 @@ loop-holds c =
     let s = c .before .before .before .before .before in
     filling-none (s .args .c) (s .args .trace .now) (s .args .rows .now) (s .args .words .now) (settled (s .args .s) false) (ready s) refl
 
-add-ports-at : tie.Need-add-ports-at Inv-loop μ-loop
-add-ports-at c = omega (arith, low c, start c .pre .0 .short)
+add-t : tie.Need-add-t Inv-loop μ-loop
+add-t c = omega (arith, low c, start c .pre .0 .short)
 
-ports-at-requires : tie.Need-ports-at-requires Inv-loop μ-loop
-ports-at-requires c κs = (start c .pre .0 .good, low c)
+values-at-requires : tie.Need-values-at-requires Inv-loop μ-loop
+values-at-requires c κs = (start c .pre .0 .good, low c)
 
-ports-cycle-requires : tie.Need-ports-cycle-requires Inv-loop μ-loop
-ports-cycle-requires c κs = let l = c .before in (start l .pre .0 .good, start l .pre .1, l .before .loop .inv .possible-word)
+known-at-requires : tie.Need-known-at-requires Inv-loop μ-loop
+known-at-requires c κs = let l = c .before in (start l .pre .0 .good, low l)
+
+values-cycle-requires : tie.Need-values-cycle-requires Inv-loop μ-loop
+values-cycle-requires c κs = let l = c .before .before in (start l .pre .0 .good, start l .pre .1, l .before .loop .inv .possible-word)
 
 mul-rows : tie.Need-mul-rows Inv-loop μ-loop
-mul-rows c = let l = c .before .before in omega (arith, low l, start l .pre .0 .short)
+mul-rows c = let l = c .before .before .before in omega (arith, low l, start l .pre .0 .short)
 
 slice-write-rows : tie.Need-slice-write-rows Inv-loop μ-loop
-slice-write-rows c = let l = c .before .before in omega (arith, l .before .loop .inv .rows-are .same-length, start l .pre .0 .rows-hold)
+slice-write-rows c = let l = c .before .before .before in omega (arith, l .before .loop .inv .rows-are .same-length, start l .pre .0 .rows-hold)
 
 mul-words : tie.Need-mul-words Inv-loop μ-loop
-mul-words c = let l = c .before .before in omega (arith, low l, start l .pre .0 .short)
+mul-words c = let l = c .before .before .before in omega (arith, low l, start l .pre .0 .short)
 
 slice-write-words : tie.Need-slice-write-words Inv-loop μ-loop
-slice-write-words c = let l = c .before .before in omega (arith, l .before .loop .inv .words-are .same-length, start l .pre .0 .words-hold)
+slice-write-words c = let l = c .before .before .before in omega (arith, l .before .loop .inv .words-are .same-length, start l .pre .0 .words-hold)
 
 add-at : tie.Need-add-at Inv-loop μ-loop
-add-at c = let l = c .before .before in omega (arith, low l, start l .pre .0 .short)
+add-at c = let l = c .before .before .before in omega (arith, low l, start l .pre .0 .short)
 
 loop-less : tie.Need-loop-less Inv-loop μ-loop
 loop-less c = omega arith
 
 loop-again : tie.Need-loop-again Inv-loop μ-loop
 loop-again c =
-    let l = c .before .before in
+    let l = c .before .before .before in
     let s = start l in
     let at = l .before .loop in
-    let next = c .ports-cycle in
+    let next = c .values-cycle in
     rw (add-one (at .at))
     (filling-more (s .args .c) (s .args .trace .now) (s .args .rows .now) (s .args .words .now) (settled (s .args .s) false) (ready s) refl (at .rows) (at .words)
-    (at .at) (at .word) (at .inv) (l .loop-test .taken) (next .result .row) (next .result .word) (next .ensures _ (c .before .ports-at .ensures)))
+    (at .at) (at .word) (at .inv) (l .loop-test .taken) (next .result .row) (next .result .word) (next .ensures _ (c .before .before .values-at .ensures) (c .before .known-at .ensures)))
 
 same-length : tie.Need-same-length Inv-loop μ-loop
 same-length c = c .before .loop .inv .rows-are .same-length
@@ -98,9 +101,10 @@ fill-transition-spec =
     μ-loop
     kept-at-end-requires
     loop-holds
-    add-ports-at
-    ports-at-requires
-    ports-cycle-requires
+    add-t
+    values-at-requires
+    known-at-requires
+    values-cycle-requires
     mul-rows
     slice-write-rows
     mul-words
