@@ -12,7 +12,7 @@ use Rattle.bits.proofs.Bits.{bit-number, bit-past, bit-without, number-ext}
 use Rattle.bus.specs.Range.{width, wireOf, valueOf}
 use Rattle.bus.proofs.Wires.{value-zero}
 use Rattle.bus.specs.declared.range.Range.{Range}
-use Rattle.bits.proofs.Tests.{either, of-true, iff-eq, and-left, or-cases}
+use Rattle.bits.proofs.Tests.{either, is-true, of-true, iff-eq, and-left, and-right, or-cases}
 use Rattle.rules.specs.declared.config.Config.{Config}
 use Rattle.rules.specs.declared.frame.Frame.{Frame}
 use Rattle.rules.specs.Config.{family}
@@ -118,3 +118,14 @@ read-known r wires unknown e =
     none k l =
         sym (bit-number (width r) (λ i. bit unknown (wireOf r i)) k l)
         ∙ ap (λ (x : ℕ). bit x k) (eqb-true (number (width r) (λ i. bit unknown (wireOf r i))) 0 e) ∙ bit-past 0 0 k (lit< tt) zero-le
+
+-- where every port is known, they are told so
+pub all-tell : (c : Config) (f : Frame) (k : Known) → ((k .test && k .«start_state») && k .«next_state») ≡ true → Tells c f k
+    → Tells c f (record { test = true; «start_state» = true; «next_state» = true })
+all-tell c f k e tells =
+    let two = and-left (k .test && k .«start_state») (k .«next_state») (of-true e) in
+    record {
+      test-known = sym (is-true (k .test) (and-left (k .test) (k .«start_state») two)) ∙ tells .test-known;
+      start-known = sym (is-true (k .«start_state») (and-right (k .test) (k .«start_state») two)) ∙ tells .start-known;
+      next-known = sym (is-true (k .«next_state») (and-right (k .test && k .«start_state») (k .«next_state») (of-true e))) ∙ tells .next-known;
+    }

@@ -138,6 +138,18 @@ pub fn values_cycle(c: Config, word: u64, values: Values, known: Known) -> Outco
     if !values.up {
         return Outcome { row: 0, word: 0 }; // no value stays stored
     }
+    // Where every port is known, as in most cycles, the step is compiled without the flags.
+    if known.test & known.start_state & known.next_state {
+        return transition_step(
+            word,
+            values,
+            Known {
+                test: true,
+                start_state: true,
+                next_state: true,
+            },
+        );
+    }
     transition_step(word, values, known)
 }
 
