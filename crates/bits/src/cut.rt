@@ -58,3 +58,19 @@ pub fn masked_ascending(left: u32, right: u32, wires: u32) -> u32
 {
     masked(31 - left, 31 - right, reversed(wires))
 }
+
+// The wires from `right` up, the wire `right` as bit 0: for a caller that looks at no bit above a range. No mask has to be kept in a loop.
+pub fn upward(right: u32, wires: u32) -> u32
+    requires { ⌜ right ≤ 31 ⌝ }
+    ensures { λ r. ⌜ ((k : ℕ) → bit r k ≡ bit wires (right + k)) ⌝ }
+{
+    wires >> right
+}
+
+// The wires from `right` down, the wire `right` as bit 0.
+pub fn downward(right: u32, wires: u32) -> u32
+    requires { ⌜ right ≤ 31 ⌝ }
+    ensures { λ r. ⌜ ((k : ℕ) → k ≤ right → bit r k ≡ bit wires (right - k)) ⌝ }
+{
+    reversed(wires) >> (31 - right)
+}

@@ -4,7 +4,9 @@ mod mask;
 
 pub use cut::ascending;
 pub use cut::descending;
+pub use cut::downward;
 pub use cut::masked;
 pub use cut::masked_ascending;
+pub use cut::upward;
 pub use mask::low_ones;
 pub use mask::without;

@@ -1,11 +1,14 @@
 // The declared range of a port, and the value that the port's wires hold.
 use bits::ascending;
 use bits::descending;
+use bits::downward;
 use bits::masked;
 use bits::masked_ascending;
+use bits::upward;
 ghost use mathlib.Core.Path.{_≡_};
 ghost use mathlib.Core.Bool.{not};
-ghost use Prim.Native.Nat.{_≤_};
+ghost use Prim.Native.Nat.{ℕ, _≤_, _<_};
+ghost use Rattle.bits.specs.Bits.{bit};
 ghost use lib.Dec.{T, eqb, leb};
 ghost use Rattle.bus.specs.Range.{width, within, valueOf};
 
@@ -72,6 +75,20 @@ impl Range {
             masked(left, right, wires)
         } else {
             masked_ascending(left, right, wires)
+        }
+    }
+
+    // A word whose lowest bits are the value's, as many as the port has wires: above them are other wires.
+    pub fn low_bits(self, wires: u32) -> u32
+        requires { ⌜ T (within self) ⌝ }
+        ensures { λ r. ⌜ ((k : ℕ) → k < width self → bit r k ≡ bit (valueOf self wires) k) ⌝ }
+    {
+        let left = self.left as u32;
+        let right = self.right as u32;
+        if right <= left {
+            upward(right, wires)
+        } else {
+            downward(right, wires)
         }
     }
 

@@ -12,10 +12,11 @@ use rules::OPENED;
 use rules::UNKNOWN;
 use trace::frame_at;
 ghost use mathlib.Core.Path.{_≡_};
-ghost use mathlib.Core.Bool.{not, _&&_};
+ghost use mathlib.Core.Bool.{false, not, _&&_};
 ghost use Prim.Native.Nat.{ℕ, suc, _+_, _-_, _*_, _^_, _≤_, _<_};
-ghost use lib.Dec.{T};
-ghost use Rattle.bits.specs.Bits.{toBit, bit, some, number};
+ghost use lib.Bits.{bitAnd};
+ghost use lib.Dec.{T, eqb};
+ghost use Rattle.bits.specs.Bits.{toBit, bit, number, without};
 ghost use Rattle.bus.specs.Range.{valueOf};
 ghost use Rattle.rules.specs.Config.{Good, family, GoesOn};
 ghost use Rattle.rules.specs.Config.Family.{sequence};
@@ -24,34 +25,25 @@ ghost use Rattle.rules.specs.Rules.{rowOf, checkMarks};
 ghost use Rattle.rules.specs.Sequence.{eventMissed};
 ghost use Rattle.rules.specs.Step.{StepsTo, Steps};
 ghost use Rattle.trace.specs.Traces.{frames, frameAt};
-ghost use Rattle.sequence.specs.Events.{Sees, Fits};
+ghost use Rattle.sequence.specs.Events.{Sees};
 
-// What P holds in a cycle: reset_n, and, in the order in which an attempt meets them, the events that are 1 and those that are unknown.
+// The events of a cycle: reset_n, and, in the order in which an attempt meets them, those that are 1 and those that are unknown. Above the n events are
+// other wires, at which no step looks.
 pub struct Events {
     pub up: bool,
     pub seen: u64,
     pub unknown: u64,
 }
 
-// The events of a frame. In most cycles no wire is unknown: then P is read as it was sampled, and no unknown wires have to be put in order.
+// The events of a frame.
 pub fn events_in(c: Config, frame: Frame) -> Events
     requires { ⌜ (Good c) × (family (c .kind) ≡ sequence) ⌝ }
     ensures { λ r. ⌜ Sees c frame r ⌝ }
-    ensures { λ r. ⌜ Fits c r ⌝ }
 {
-    let up = out_of_reset(frame);
-    let wires = frame.samples[5];
-    if wires == 0 {
-        return Events {
-            up,
-            seen: in_order(c, frame.samples[1]),
-            unknown: 0,
-        };
-    }
     Events {
-        up,
+        up: out_of_reset(frame),
         seen: in_order(c, sample(frame, 1)),
-        unknown: in_order(c, wires),
+        unknown: unknown_in_order(c, frame.samples[5]),
     }
 }
 
@@ -59,46 +51,49 @@ pub fn events_in(c: Config, frame: Frame) -> Events
 pub fn events_at(c: Config, trace: &[u32], t: usize) -> Events
     requires { ⌜ (Good c) × (family (c .kind) ≡ sequence) × (t < frames (now trace)) ⌝ }
     ensures { λ r. ⌜ Sees c (frameAt (now (trace .entry)) t) r ⌝ }
-    ensures { λ r. ⌜ Fits c r ⌝ }
 {
     events_in(c, frame_at(trace, t))
 }
 
+// Where no event is unknown, as in most cycles, every attempt that ends fails: what unknown events add to a row stands behind one test of them.
 fn sequence_step(c: Config, word: u64, events: Events) -> Outcome
-    requires { ⌜ (Good c) × (family (c .kind) ≡ sequence) × (T (goingPossible c word)) × (Fits c events) ⌝ }
+    requires { ⌜ (Good c) × (family (c .kind) ≡ sequence) × (T (goingPossible c word)) ⌝ }
     ensures { λ r. ⌜ ((frame : Frame) → Sees c frame events → StepsTo sequence c word frame (r .row) (r .word)) ⌝ }
 {
     let n = c.n;
     let seen = events.seen;
     let unknown = events.unknown;
-    let missed = missed_of(seen, unknown, n);
     let first = seen % 2 == 1;
-    // Kind 2 starts only where nothing is being tested.
-    let start = if c.kind == 2 {
-        first & (word == 0)
-    } else {
-        first
-    };
-    let next = advanced(word, start, seen, n);
+    let ended = ended_of(word, seen);
     // Kind 0 looks at the oldest attempt alone: mark 4 says that it has met all events but the last.
     if c.kind == 0 {
-        Outcome {
-            row: oldest_row(word, missed, unknown, next, n),
+        let next = advanced(word, first, seen, n);
+        let marks = oldest_row(ended, unknown, n) + OPENED * highest_bit(next, n - 2);
+        return Outcome {
+            row: marks,
             word: next,
-        }
-    } else {
-        let failure = some_tested(word, missed, n);
-        let doubt = some_tested(word, unknown, n);
-        Outcome {
-            row: check_row(failure, start, doubt),
-            word: next,
-        }
+        };
+    }
+    let row = ended_row(ended, unknown);
+    // Kind 2 starts only where nothing is being tested.
+    if c.kind == 2 {
+        let start = first & (word == 0);
+        let marks = row + OPENED * to_bit(start);
+        return Outcome {
+            row: marks,
+            word: advanced(word, start, seen, n),
+        };
+    }
+    let marks = row + OPENED * to_bit(first);
+    Outcome {
+        row: marks,
+        word: advanced(word, first, seen, n),
     }
 }
 
 // The step in any cycle: a reset ends everything.
 pub fn events_cycle(c: Config, word: u64, events: Events) -> Outcome
-    requires { ⌜ (Good c) × (GoesOn sequence c) × (T (possible c word)) × (Fits c events) ⌝ }
+    requires { ⌜ (Good c) × (GoesOn sequence c) × (T (possible c word)) ⌝ }
     ensures { λ r. ⌜ ((frame : Frame) → Sees c frame events → Steps c word frame (r .row) (r .word)) ⌝ }
 {
     if !events.up {
@@ -119,10 +114,21 @@ pub fn sequence_cycle(c: Config, word: u64, frame: Frame) -> Outcome
 // That is the port's value with the declaration turned round.
 fn in_order(c: Config, wires: u32) -> u64
     requires { ⌜ (Good c) × (family (c .kind) ≡ sequence) ⌝ }
-    ensures { λ r. ⌜ r ≡ number (c .n) (λ (i : ℕ). bit (valueOf (c .p) wires) (c .n - 1 - i)) ⌝ }
+    ensures { λ r. ⌜ ((i : ℕ) → i < c .n → bit r i ≡ bit (valueOf (c .p) wires) (c .n - 1 - i)) ⌝ }
 {
     let p = c.p;
-    p.turned().masked_value(wires) as u64
+    p.turned().low_bits(wires) as u64
+}
+
+// The same of the unknown wires. In most cycles there is none, and nothing has to be put in order.
+fn unknown_in_order(c: Config, wires: u32) -> u64
+    requires { ⌜ (Good c) × (family (c .kind) ≡ sequence) ⌝ }
+    ensures { λ r. ⌜ ((i : ℕ) → i < c .n → bit r i ≡ bit (valueOf (c .p) wires) (c .n - 1 - i)) ⌝ }
+{
+    if wires == 0 {
+        return 0;
+    }
+    in_order(c, wires)
 }
 
 // The events that are known to be 0, in the same order.
@@ -131,15 +137,8 @@ pub fn missed_in_order(c: Config, frame: Frame) -> u64
     ensures { λ r. ⌜ r ≡ number (c .n) (λ (i : ℕ). eventMissed c frame (c .n - 1 - i)) ⌝ }
 {
     let events = events_in(c, frame);
-    missed_of(events.seen, events.unknown, c.n)
-}
-
-// Of n events those that are neither 1 nor unknown.
-fn missed_of(events: u64, unknown: u64, n: u32) -> u64
-    requires { ⌜ (n < 64) × (events < 2 ^ n) × (unknown < 2 ^ n) ⌝ }
-    ensures { λ r. ⌜ r ≡ number n (λ (i : ℕ). not (bit events i) && not (bit unknown i)) ⌝ }
-{
-    low_ones(n) ^ (events | unknown)
+    let all = low_ones(c.n);
+    all ^ (all & (events.seen | events.unknown))
 }
 
 // Every attempt one cycle older, with the new one, where it had its event. The oldest, which met its last event, drops out.
@@ -150,31 +149,37 @@ fn advanced(word: u64, start: bool, events: u64, n: u32) -> u64
     (word * 2 + to_bit(start) as u64) & events & low_ones(n - 1)
 }
 
-// The row by the oldest attempts: whether the one of `word` missed its last event or found it unknown, and whether there is one in `next`. The marks are
-// numbers from the start: where a test makes them of a bit, the loop over a trace takes longer.
-fn oldest_row(word: u64, missed: u64, unknown: u64, next: u64, n: u32) -> u32
-    requires { ⌜ (2 ≤ n) × (n ≤ 32) × (word < 2 ^ (n - 1)) × (next < 2 ^ (n - 1)) ⌝ }
-    ensures { λ r. ⌜ r ≡ rowOf (checkMarks (bit word (n - 2) && bit missed (n - 1)) (bit next (n - 2)) (bit word (n - 2) && bit unknown (n - 1))) ⌝ }
+// Every attempt one cycle older, where it had not its event.
+fn ended_of(word: u64, events: u64) -> u64
+    requires { ⌜ word < 2 ^ 32 ⌝ }
+    ensures { λ r. ⌜ r ≡ without (word * 2) events ⌝ }
 {
-    FAILURE * oldest_tested(word, missed, n)
-        + OPENED * highest_bit(next, n - 2)
-        + UNKNOWN * oldest_tested(word, unknown, n)
+    let older = word * 2;
+    older ^ (older & events)
 }
 
-// Whether the oldest attempt is tested on one of these events, as a number.
-fn oldest_tested(word: u64, events: u64, n: u32) -> u32
-    requires { ⌜ (2 ≤ n) × (n ≤ 32) × (word < 2 ^ (n - 1)) ⌝ }
-    ensures { λ r. ⌜ (r ≡ toBit (bit word (n - 2) && bit events (n - 1))) × (r ≤ 1) ⌝ }
+// The marks of attempts that end: those whose event is unknown are in doubt, and the others fail.
+fn ended_row(ended: u64, unknown: u64) -> u32
+    ensures { λ r. ⌜ r ≡ rowOf (checkMarks (not (eqb (without ended unknown) 0)) false (not (eqb (bitAnd ended unknown) 0))) ⌝ }
 {
-    highest_bit(word * 2 & events, n - 1)
+    if unknown == 0 {
+        return check_row(ended != 0, false, false);
+    }
+    let doubt = ended & unknown;
+    check_row(ended ^ doubt != 0, false, doubt != 0)
 }
 
-// Whether some attempt is tested on one of these events.
-fn some_tested(word: u64, events: u64, n: u32) -> bool
-    requires { ⌜ (n ≤ 32) × (word < 2 ^ (n - 1)) ⌝ }
-    ensures { λ r. ⌜ r ≡ some (n - 1) (λ (j : ℕ). bit word j && bit events (suc j)) ⌝ }
+// The marks of the oldest attempt alone, by its last event. They are numbers from the start: where a test makes them of a bit, the loop over a trace takes
+// longer.
+fn oldest_row(ended: u64, unknown: u64, n: u32) -> u32
+    requires { ⌜ (1 ≤ n) × (n ≤ 32) × (ended < 2 ^ n) ⌝ }
+    ensures { λ r. ⌜ r ≡ rowOf (checkMarks (bit (without ended unknown) (n - 1)) false (bit (bitAnd ended unknown) (n - 1))) ⌝ }
 {
-    word * 2 & events != 0
+    if unknown == 0 {
+        return FAILURE * highest_bit(ended, n - 1);
+    }
+    let doubt = ended & unknown;
+    FAILURE * highest_bit(ended ^ doubt, n - 1) + UNKNOWN * highest_bit(doubt, n - 1)
 }
 
 // Bit k of a word that has no higher one.

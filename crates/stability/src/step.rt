@@ -11,75 +11,109 @@ use rules::REFERENCE_UNIT;
 use trace::frame_at;
 use trigger::is_tested;
 use trigger::sees_trigger;
-ghost use mathlib.Core.Bool.{cond};
+ghost use mathlib.Core.Bool.{true, cond};
 ghost use mathlib.Core.Path.{_≡_};
 ghost use Prim.Native.Nat.{_+_, _^_, _<_, _≤_};
 ghost use lib.Dec.{T, eqb};
 ghost use Rattle.rules.specs.Config.{Good, family, GoesOn};
 ghost use Rattle.rules.specs.Config.Family.{stability};
 ghost use Rattle.rules.specs.Possible.{goingPossible, possible};
-ghost use Rattle.rules.specs.Step.{StepsTo, Steps};
+ghost use Rattle.rules.specs.Frame.{enabled};
+ghost use Rattle.rules.specs.Step.{opens, StepsTo, Steps};
 ghost use Rattle.rules.specs.Trigger.{withReference};
 ghost use Rattle.trace.specs.Traces.{frames, frameAt};
-ghost use Rattle.stability.specs.Tracked.{Reads, Tracks};
+ghost use Rattle.stability.specs.Tracked.{Sees, isOpen, Tracks};
 
-// What is read of a cycle: reset_n and, out of reset, enable, whether a trigger is seen, the tracked value, and whether every bit of it is known.
-pub struct Tracked {
+// What is seen of a cycle first: reset_n and, out of reset, enable, and whether there is a trigger.
+pub struct Seen {
     pub up: bool,
     pub enabled: bool,
     pub trigger: bool,
+}
+
+// The tracked value, and whether every bit of it is known: only then does a step use it.
+pub struct Tracked {
     pub value: u32,
     pub known: bool,
 }
 
-// What is read of a frame.
-pub fn tracked_in(c: Config, frame: Frame) -> Tracked
+// What is seen of a frame.
+pub fn seen_in(c: Config, frame: Frame) -> Seen
     requires { ⌜ (Good c) × (family (c .kind) ≡ stability) ⌝ }
-    ensures { λ r. ⌜ Tracks c frame r ⌝ }
+    ensures { λ r. ⌜ Sees c frame r ⌝ }
 {
     if !out_of_reset(frame) {
-        return Tracked {
+        return Seen {
             up: false,
             enabled: false,
             trigger: false,
-            value: 0,
-            known: false,
         };
     }
-    let p = c.p;
-    Tracked {
+    Seen {
         up: true,
         enabled: is_enabled(frame),
         trigger: sees_trigger(c, frame),
-        value: p.masked_value(sample(frame, 1)),
-        known: !p.has_one(frame.samples[5]),
     }
 }
 
-// What is read of cycle t of a trace. A loop over a trace reads the cycle and steps in two calls: together they are too large to be inlined.
-pub fn tracked_at(c: Config, trace: &[u32], t: usize) -> Tracked
-    requires { ⌜ (Good c) × (family (c .kind) ≡ stability) × (t < frames (now trace)) ⌝ }
-    ensures { λ r. ⌜ Tracks c (frameAt (now (trace .entry)) t) r ⌝ }
+// Whether a window is open in the cycle, from before it or by its trigger. Only then is the tracked value read.
+fn is_open(word: u64, seen: Seen) -> bool
+    ensures { λ r. ⌜ r ≡ isOpen word seen ⌝ }
 {
-    tracked_in(c, frame_at(trace, t))
+    seen.up & ((word != 0) | seen.trigger)
 }
 
-// The open word is the number of cycles left to s+max, this one included, with the reference above it.
-fn stability_step(c: Config, word: u64, t: Tracked) -> Outcome
+// The tracked value of a frame, where a window is open. In most cycles no wire is unknown, so that no range has to be looked at.
+pub fn tracked_in(c: Config, frame: Frame, word: u64, seen: Seen) -> Tracked
+    requires { ⌜ Good c ⌝ }
+    ensures { λ r. ⌜ (isOpen word seen ≡ true → Tracks c frame r) ⌝ }
+{
+    if !is_open(word, seen) {
+        return Tracked {
+            value: 0,
+            known: true,
+        };
+    }
+    let p = c.p;
+    let value = p.masked_value(frame.samples[1]);
+    let unknown = frame.samples[5];
+    if unknown == 0 {
+        return Tracked { value, known: true };
+    }
+    Tracked {
+        value,
+        known: !p.has_one(unknown),
+    }
+}
+
+// The same of cycle t of a trace. A loop over a trace reads the cycle and steps in three calls: together they are too large to be inlined.
+pub fn seen_at(c: Config, trace: &[u32], t: usize) -> Seen
+    requires { ⌜ (Good c) × (family (c .kind) ≡ stability) × (t < frames (now trace)) ⌝ }
+    ensures { λ r. ⌜ Sees c (frameAt (now (trace .entry)) t) r ⌝ }
+{
+    seen_in(c, frame_at(trace, t))
+}
+
+pub fn tracked_at(c: Config, trace: &[u32], t: usize, word: u64, seen: Seen) -> Tracked
+    requires { ⌜ (Good c) × (t < frames (now trace)) ⌝ }
+    ensures { λ r. ⌜ (isOpen word seen ≡ true → Tracks c (frameAt (now (trace .entry)) t) r) ⌝ }
+{
+    tracked_in(c, frame_at(trace, t), word, seen)
+}
+
+// The step of an open window. The open word is the number of cycles left to s+max, this one included, with the reference above it.
+fn stability_step(c: Config, word: u64, enable: bool, t: Tracked) -> Outcome
     requires { ⌜ (Good c) × (family (c .kind) ≡ stability) × (T (goingPossible c word)) ⌝ }
-    ensures { λ r. ⌜ ((frame : Frame) → Reads c frame t → StepsTo stability c word frame (r .row) (r .word)) ⌝ }
+    ensures { λ r. ⌜ ((frame : Frame) → opens c word frame ≡ true → enable ≡ enabled frame → Tracks c frame t → StepsTo stability c word frame (r .row) (r .word)) ⌝ }
 {
     let max = c.n as u64;
-    let opened = word == 0;
-    if opened & !t.trigger {
-        return Outcome { row: 0, word: 0 };
-    }
     if REFERENCE_HELD <= word {
-        return compared_step(c, word, t);
+        return compared_step(c, word, enable, t);
     }
+    let opened = word == 0;
     let left = if opened { max } else { word - 1 };
     let known = t.known;
-    let tested = is_tested(c, left, t.enabled);
+    let tested = is_tested(c, left, enable);
     Outcome {
         row: window_row(false, opened, left == 0, tested & !known),
         word: first_word(left, tested & known, t.value),
@@ -99,16 +133,15 @@ fn first_word(left: u64, compared: bool, tracked: u32) -> u64
 }
 
 // The step of a window that has a reference, which is compared to its end.
-fn compared_step(c: Config, word: u64, t: Tracked) -> Outcome
+fn compared_step(c: Config, word: u64, enable: bool, t: Tracked) -> Outcome
     requires { ⌜ (Good c) × (family (c .kind) ≡ stability) × (T (goingPossible c word)) × (2 ^ 48 ≤ word) ⌝ }
-    ensures { λ r. ⌜ ((frame : Frame) → Reads c frame t → StepsTo stability c word frame (r .row) (r .word)) ⌝ }
+    ensures { λ r. ⌜ ((frame : Frame) → enable ≡ enabled frame → Tracks c frame t → StepsTo stability c word frame (r .row) (r .word)) ⌝ }
 {
-    let enabled = t.enabled;
     let known = t.known;
     // The word is so many times the unit, and the cycles left.
     let changed = t.value as u64 + REFERENCE_HELD / REFERENCE_UNIT != word / REFERENCE_UNIT;
     let last = word % REFERENCE_UNIT == 1;
-    let row = window_row(enabled & known & changed, false, last, enabled & !known);
+    let row = window_row(enable & known & changed, false, last, enable & !known);
     if last {
         Outcome { row, word: 0 }
     } else {
@@ -119,15 +152,28 @@ fn compared_step(c: Config, word: u64, t: Tracked) -> Outcome
     }
 }
 
-// The step in any cycle: a reset ends everything.
-pub fn tracked_cycle(c: Config, word: u64, t: Tracked) -> Outcome
+// The step in any cycle: a reset ends everything, and nothing happens where no window is open.
+pub fn tracked_cycle(c: Config, word: u64, seen: Seen, t: Tracked) -> Outcome
     requires { ⌜ (Good c) × (GoesOn stability c) × (T (possible c word)) ⌝ }
-    ensures { λ r. ⌜ ((frame : Frame) → Tracks c frame t → Steps c word frame (r .row) (r .word)) ⌝ }
+    ensures { λ r. ⌜ ((frame : Frame) → Sees c frame seen → (isOpen word seen ≡ true → Tracks c frame t) → Steps c word frame (r .row) (r .word)) ⌝ }
 {
-    if !t.up {
-        return Outcome { row: 0, word: 0 }; // no window stays open, and no reference
+    if !is_open(word, seen) {
+        return Outcome { row: 0, word: 0 }; // in reset no window stays open, and no reference
     }
-    stability_step(c, word, t)
+    let enable = seen.enabled;
+    // Where the value is known, as in most cycles, the step is compiled without the flag.
+    if t.known {
+        return stability_step(
+            c,
+            word,
+            enable,
+            Tracked {
+                value: t.value,
+                known: true,
+            },
+        );
+    }
+    stability_step(c, word, enable, t)
 }
 
 // The same from the frame.
@@ -135,5 +181,6 @@ pub fn stability_cycle(c: Config, word: u64, frame: Frame) -> Outcome
     requires { ⌜ (Good c) × (GoesOn stability c) × (T (possible c word)) ⌝ }
     ensures { λ r. ⌜ Steps c word frame (r .row) (r .word) ⌝ }
 {
-    tracked_cycle(c, word, tracked_in(c, frame))
+    let seen = seen_in(c, frame);
+    tracked_cycle(c, word, seen, tracked_in(c, frame, word, seen))
 }

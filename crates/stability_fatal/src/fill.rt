@@ -2,6 +2,7 @@
 use fatal::fails;
 use rules::Config;
 use rules::STOPPED;
+use stability::seen_at;
 use stability::tracked_at;
 use stability::tracked_cycle;
 use trace::Reached;
@@ -26,7 +27,9 @@ pub fn fill(c: Config, trace: &[u32], rows: &mut [u32], words: &mut [u64], s: St
     let kept = s.kept;
     let last = kept_at_end(words, at, to, kept);
     while at < to {
-        let next = tracked_cycle(c, word, tracked_at(c, trace, from + at));
+        let t = from + at;
+        let seen = seen_at(c, trace, t);
+        let next = tracked_cycle(c, word, seen, tracked_at(c, trace, t, word, seen));
         rows[at] = next.row;
         if fails(next.row) {
             let before = words[at];

@@ -2,6 +2,7 @@
 use fatal::fails;
 use rules::Config;
 use rules::STOPPED;
+use stability::seen_at;
 use stability::tracked_at;
 use stability::tracked_cycle;
 use trace::Reached;
@@ -27,7 +28,9 @@ pub fn seek(c: Config, trace: &[u32], rows: &mut [u32], words: &mut [u64], s: St
         if word == kept {
             return Reached { at, word, kept };
         }
-        let next = tracked_cycle(c, word, tracked_at(c, trace, from + at));
+        let t = from + at;
+        let seen = seen_at(c, trace, t);
+        let next = tracked_cycle(c, word, seen, tracked_at(c, trace, t, word, seen));
         kept = words[at];
         rows[at] = next.row;
         if fails(next.row) {

@@ -1,5 +1,6 @@
 // Runs of kind 8 that do not stop.
 use rules::Config;
+use stability::seen_at;
 use stability::tracked_at;
 use stability::tracked_cycle;
 use trace::Reached;
@@ -29,7 +30,9 @@ pub fn fill_stability(
     let kept = s.kept;
     let last = kept_at_end(words, at, to, kept);
     while at < to {
-        let next = tracked_cycle(c, word, tracked_at(c, trace, from + at));
+        let t = from + at;
+        let seen = seen_at(c, trace, t);
+        let next = tracked_cycle(c, word, seen, tracked_at(c, trace, t, word, seen));
         word = next.word;
         rows[at] = next.row;
         words[at] = word;

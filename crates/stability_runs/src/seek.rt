@@ -1,5 +1,6 @@
 // Runs of kind 8 that stop where they meet the kept words.
 use rules::Config;
+use stability::seen_at;
 use stability::tracked_at;
 use stability::tracked_cycle;
 use trace::Reached;
@@ -30,7 +31,9 @@ pub fn seek_stability(
         if word == kept {
             return Reached { at, word, kept };
         }
-        let next = tracked_cycle(c, word, tracked_at(c, trace, from + at));
+        let t = from + at;
+        let seen = seen_at(c, trace, t);
+        let next = tracked_cycle(c, word, seen, tracked_at(c, trace, t, word, seen));
         kept = words[at];
         word = next.word;
         rows[at] = next.row;

@@ -1,16 +1,13 @@
 -- What the code of kind 6 computes, as the step's definition has it. Assumes nothing.
-use Prim.Native.Nat.{ℕ, _+_, _-_, _^_, _<_, zero-le}
-use mathlib.Core.Path.{_≡_, refl, sym, ap, subst, _∙_}
-use mathlib.Core.Bool.{Bool, true, false, not, _&&_, _||_, cond, and-true}
+use Prim.Native.Nat.{ℕ, _+_, _-_, _^_}
+use mathlib.Core.Path.{_≡_, refl, sym, subst, _∙_}
+use mathlib.Core.Bool.{Bool, true, false, not, _&&_, _||_, cond}
 use mathlib.Core.Logic.{⊎-elim}
 use native.Mathlib.Omega.{arith}
-use lib.Dec.{T, eqb, leb, ltb, leb→le, eqb→eq, lit<}
+use lib.Dec.{T, eqb, leb, ltb, leb→le, eqb→eq}
 use borrow.Author.Tests.{lt-ltb, eq-eqb, ne-eqb, eqb-true, eqb-false}
 use lib.Bits.{bitOr, or-add-and, and-le-l, and-le-r}
-use Rattle.bits.specs.Bits.{bit, number, without}
-use Rattle.bits.proofs.Bits.{bit-number, bit-past, bit-without, number-ext}
-use Rattle.bus.specs.Range.{width, wireOf, valueOf}
-use Rattle.bus.proofs.Wires.{value-zero}
+use Rattle.bus.specs.Range.{width}
 use Rattle.bus.specs.declared.range.Range.{Range}
 use Rattle.bits.proofs.Tests.{either, is-true, of-true, iff-eq, and-left, and-right, or-cases}
 use Rattle.rules.specs.declared.config.Config.{Config}
@@ -33,17 +30,6 @@ none-left a b e = omega (arith, or-add-and a b, and-le-r a b, e)
 
 pub none-right : (a b : ℕ) → bitOr a b ≡ 0 → b ≡ 0
 none-right a b e = omega (arith, or-add-and a b, and-le-l a b, e)
-
--- a port that has no unknown bit is known
-pub none-known : (r : Range) (x : ℕ) → x ≡ 0 → true ≡ eqb (valueOf r x) 0
-none-known r x e = rw (e, value-zero r) refl
-
-pub known-is : (r : Range) (x : ℕ) (b : Bool) → b ≡ not (eqb (valueOf r x) 0) → not b ≡ eqb (valueOf r x) 0
-known-is r x b e = ap not e ∙ twice (eqb (valueOf r x) 0)
-  where
-    twice : (a : Bool) → not (not a) ≡ a
-    twice true = refl
-    twice false = refl
 
 module _ (c : Config) (w : ℕ) (f : Frame) where
   -- a possible word of kind 6 is 0 or at least 2^32, so 2^32 added to the test compares as 2^32 taken off the word
@@ -106,18 +92,6 @@ module _ (c : Config) (w : ℕ) (f : Frame) where
         by true true p = rw (p refl) refl
         by true false p = refl
         by false b p = refl
-
--- a port whose bits are all known reads as its wires do
-pub read-known : (r : Range) (wires unknown : ℕ) → eqb (valueOf r unknown) 0 ≡ true → valueOf r wires ≡ valueOf r (without wires unknown)
-unfolding valueOf
-read-known r wires unknown e =
-    number-ext (width r) (λ k. bit wires (wireOf r k)) (λ k. bit (without wires unknown) (wireOf r k))
-    (λ k l. sym (bit-without wires unknown (wireOf r k) ∙ rw (none k l) (and-true (bit wires (wireOf r k)))))
-  where
-    none : (k : ℕ) → k < width r → bit unknown (wireOf r k) ≡ false
-    none k l =
-        sym (bit-number (width r) (λ i. bit unknown (wireOf r i)) k l)
-        ∙ ap (λ (x : ℕ). bit x k) (eqb-true (number (width r) (λ i. bit unknown (wireOf r i))) 0 e) ∙ bit-past 0 0 k (lit< tt) zero-le
 
 -- where every port is known, they are told so
 pub all-tell : (c : Config) (f : Frame) (k : Known) → ((k .test && k .«start_state») && k .«next_state») ≡ true → Tells c f k

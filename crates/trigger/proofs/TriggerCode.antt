@@ -138,38 +138,37 @@ module _ (c : Config) (w : ℕ) (f : Frame) where
     unfolding opens pends
     opens-is = rw (trigger-is, zero-test w) (ap (λ (b : Bool). b || (seen && not (ltb 0 w))) (sym (not-not (ltb 0 w))))
 
-    module _ (idle : (eqb w 0 && not seen) ≡ true) where
-      nothing : (eqb w 0 ≡ true) × (seen ≡ false)
-      nothing = by (eqb w 0) seen idle
-        where
-          by : (z x : Bool) → (z && not x) ≡ true → (z ≡ true) × (x ≡ false)
-          by true false e = (refl, refl)
-          by true true e = absurd (of-true e)
-          by false x e = absurd (of-true e)
+    seen-is : opens c w f ≡ (not (eqb w 0) || seen)
+    seen-is = opens-is ∙ by (eqb w 0) seen
+      where
+        by : (z x : Bool) → (not z || (x && z)) ≡ (not z || x)
+        by true x = and-true x
+        by false x = refl
 
-      pub idle-seen : StepsTo stability c w f 0 0
-      idle-seen = idle-stability (eqb-true w 0 (nothing .0)) (sym is ∙ nothing .1)
+    pub seen-opens : (not (eqb w 0) || seen) ≡ true → opens c w f ≡ true
+    seen-opens e = seen-is ∙ e
 
-    module _ (some : (eqb w 0 && not seen) ≡ false) where
-      pub window-trigger : triggered c w f ≡ eqb w 0
-      window-trigger = trigger-is ∙ by (eqb w 0) seen some
-        where
-          by : (z x : Bool) → (z && not x) ≡ false → (x && z) ≡ z
-          by true true e = refl
-          by true false e = absurd (of-false e tt)
-          by false x e = and-false x
+    pub idle-seen : (not (eqb w 0) || seen) ≡ false → StepsTo stability c w f 0 0
+    idle-seen e = let n = nothing (eqb w 0) seen e in idle-stability (eqb-true w 0 (n .0)) (sym is ∙ n .1)
+      where
+        nothing : (z x : Bool) → (not z || x) ≡ false → (z ≡ true) × (x ≡ false)
+        nothing true false e = (refl, refl)
+        nothing true true e = absurd (of-false e tt)
+        nothing false x e = absurd (of-false e tt)
 
-      pub window-opens : opens c w f ≡ true
-      window-opens = opens-is ∙ by (eqb w 0) seen some
-        where
-          by : (z x : Bool) → (z && not x) ≡ false → (not z || (x && z)) ≡ true
-          by true true e = refl
-          by true false e = absurd (of-false e tt)
-          by false x e = refl
+  -- a window that is open was opened by this cycle's trigger where nothing was before it
+  module _ (o : opens c w f ≡ true) where
+    pub window-trigger : triggered c w f ≡ eqb w 0
+    unfolding opens triggered pends
+    window-trigger = by (ltb 0 w) (enabled f && eqb (Q c f) 1) o ∙ sym (zero-test w)
+      where
+        by : (p x : Bool) → (p || (x && not p)) ≡ true → (x && not p) ≡ not p
+        by true x e = and-false x
+        by false x e = e
 
-      pub window-left : (before : ℕ) → after c w f before ≡ cond (eqb w 0) (c .n) (before - 1)
-      unfolding after
-      window-left before = rw window-trigger refl
+    pub window-left : (before : ℕ) → after c w f before ≡ cond (eqb w 0) (c .n) (before - 1)
+    unfolding after
+    window-left before = rw window-trigger refl
 
   -- ---- a window is open
 
@@ -222,8 +221,19 @@ last-left l h =
 pub word-before : (w : ℕ) → 2 ^ 48 ≤ w → 0 < leftIn w → w - 1 ≡ leftIn w - 1 + withReference (referenceIn w)
 word-before w h l = omega arith
 
--- the row of a step of such a word, from what the code has read
-pub compared-row : (c : Config) (w : ℕ) (f : Frame) → 2 ^ 48 ≤ w → 0 < leftIn w → (e k : Bool) (x row : ℕ) → e ≡ enabled f → k ≡ knownP c f → x ≡ P c f
-    → row ≡ rowOf (windowMarks (e && k && not (eqb (x + 2 ^ 32) (w / 2 ^ 16))) false (eqb (leftIn w) 1) (e && not k))
+-- the row of a step of such a word, from what the code has read: a value that is not known is not used
+pub compared-row : (c : Config) (w : ℕ) (f : Frame) → 2 ^ 48 ≤ w → 0 < leftIn w → (e k : Bool) (x row : ℕ) → e ≡ enabled f → k ≡ knownP c f
+    → (knownP c f ≡ true → x ≡ P c f) → row ≡ rowOf (windowMarks (e && k && not (eqb (x + 2 ^ 32) (w / 2 ^ 16))) false (eqb (leftIn w) 1) (e && not k))
     → row ≡ rowOf (windowMarks (enabled f && knownP c f && not (eqb (P c f) (referenceIn w))) false (eqb (leftIn w - 1) 0) (enabled f && not (knownP c f)))
-compared-row c w f h l e k x row a d b r = r ∙ rw (a, d, b, same-reference w (P c f) h, last-left (leftIn w) l) refl
+compared-row c w f h l e k x row a d b r =
+    r ∙ rw (a, d, same-reference w x h, last-left (leftIn w) l) (ap (λ (m : Bool). rowOf (windowMarks m false (eqb (leftIn w - 1) 0) (enabled f && not (knownP c f)))) (by (knownP c f) b))
+  where
+    by : (k : Bool) → (k ≡ true → x ≡ P c f) → (enabled f && k && not (eqb x (referenceIn w))) ≡ (enabled f && k && not (eqb (P c f) (referenceIn w)))
+    by true p = rw (p refl) refl
+    by false p = rw (and-false (enabled f)) refl
+
+-- the reference that a cycle gives, by the same
+pub reference-known : (t k : Bool) (x y : ℕ) → (k ≡ true → x ≡ y) → cond (t && k) (withReference x) 0 ≡ cond (t && k) (withReference y) 0
+reference-known true true x y p = rw (p refl) refl
+reference-known true false x y p = refl
+reference-known false k x y p = refl

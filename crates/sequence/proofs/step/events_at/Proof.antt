@@ -1,7 +1,7 @@
 -- `sequence::step::events_at` meets its contract. Assumes nothing.
+use mathlib.Core.Path.{subst}
 use Rattle.rules.specs.declared.frame.Frame.{Frame}
 use Rattle.sequence.specs.Events.{Sees}
-use mathlib.Core.Path.{subst}
 use borrow.Author.Needs.{needs}
 use Rattle.sequence.proofs.step.events_at.Statement.{statement}
 use Rattle.sequence.proofs.step.events_at.Tie as tie
@@ -15,7 +15,7 @@ events-in-requires c κs = search needs
 returns : tie.Need-returns
 returns c =
     let s = c .before .before .before in
-    (subst (λ (f : Frame). Sees (s .args .c) f (c .events-in .result)) (c .before .frame-at .ensures) (c .events-in .ensures .0), c .events-in .ensures .1)
+    subst (λ (f : Frame). Sees (s .args .c) f (c .events-in .result)) (c .before .frame-at .ensures) (c .events-in .ensures)
 
 pub events-at-spec : {M : Type 1} → statement M
 events-at-spec = tie.close (tie.spec frame-at-requires events-in-requires returns)

@@ -14,7 +14,7 @@ returns c = λ f sees.
 
 sequence-step-requires : tie.Need-sequence-step-requires
 sequence-step-requires c κs =
-    let s = c .before .before in (s .pre .0, s .pre .1 .0, goes-possible (s .args .c) (s .pre .1 .1) (s .args .word) (s .pre .2), s .pre .3)
+    let s = c .before .before in (s .pre .0, s .pre .1 .0, goes-possible (s .args .c) (s .pre .1 .1) (s .args .word) (s .pre .2))
 
 returns-2 : tie.Need-returns-2
 returns-2 c = λ f sees.

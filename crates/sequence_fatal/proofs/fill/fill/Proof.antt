@@ -64,7 +64,7 @@ events-cycle-requires c κs =
     let done =
     watch-ready (s .args .c) (s .pre .1 .1) (s .args .trace .now) (s .args .rows .now) (s .args .words .now) (settled (s .args .s) false) (ready s) (at .rows) (at .words)
     (at .at) (at .word) (keptFrom (s .args .words .now) (s .args .s .at) (s .args .s .kept) (at .at)) (at .inv .0) (at .inv .1) in
-    (done .0, s .pre .1, done .1, c .events-at .ensures .1)
+    (done .0, s .pre .1, done .1)
 
 mul-rows : tie.Need-mul-rows Inv-loop μ-loop
 mul-rows c = let l = c .before .before in omega (arith, low l, start l .pre .0 .short)
@@ -104,7 +104,7 @@ returns c =
     let come =
     fill-fails (s .args .c) (s .pre .1 .1) (s .args .trace .now) (s .args .rows .now) (s .args .words .now) (settled (s .args .s) false) (ready s) refl (at .rows) (at .words)
     (at .at) (at .word) (at .inv .0) (at .inv .1) (l .loop-test .taken) (next .result .row) (next .result .word)
-    (next .ensures _ (c .before .before .before .before .events-at .ensures .0)) (sym (c .before .before .fails .ensures) ∙ c .before .if1 .taken) in
+    (next .ensures _ (c .before .before .before .before .events-at .ensures)) (sym (c .before .before .fails .ensures) ∙ c .before .if1 .taken) in
     settled-watched (s .pre .3) (record { come = rw (add-one (at .at)) come; ended = λ other _. absurd (other refl) })
 
 same-length : tie.Need-same-length Inv-loop μ-loop
@@ -136,7 +136,7 @@ loop-again c =
     rw (add-one (at .at))
     (fill-goes-on (s .args .c) (s .pre .1 .1) (s .args .trace .now) (s .args .rows .now) (s .args .words .now) (settled (s .args .s) false) (ready s) refl (at .rows) (at .words)
     (at .at) (at .word) (at .inv .0) (at .inv .1) (l .loop-test .taken) (next .result .row) (next .result .word)
-    (next .ensures _ (c .before .before .before .events-at .ensures .0)) (sym (c .before .fails .ensures) ∙ c .if1 .left))
+    (next .ensures _ (c .before .before .before .events-at .ensures)) (sym (c .before .fails .ensures) ∙ c .if1 .left))
 
 same-length-3 : tie.Need-same-length-3 Inv-loop μ-loop
 same-length-3 c = c .before .loop .inv .0 .rows-are .same-length

@@ -72,7 +72,7 @@ events-cycle-requires c κs =
     let ready =
     watch-ready (s .args .c) (s .pre .1 .1) (s .args .trace .now) (s .args .rows .now) (s .args .words .now) (settled (s .args .s) true) (ready s) (at .rows) (at .words) (at .at)
     (at .word) (at .kept) (at .inv .0) (at .inv .1) in
-    (ready .0, s .pre .1, ready .1, c .events-at .ensures .1)
+    (ready .0, s .pre .1, ready .1)
 
 mul-kept : tie.Need-mul-kept Inv-loop μ-loop
 mul-kept c = let l = c .before .before in omega (arith, low l, start l .pre .0 .short)
@@ -113,7 +113,7 @@ returns-2 c =
     let come =
     watch-fails (s .args .c) (s .pre .1 .1) (s .args .trace .now) (s .args .rows .now) (s .args .words .now) (settled (s .args .s) true) (ready s) (at .rows) (at .words) (at .at) (at .word)
     (at .kept) (at .inv .0) (at .inv .1) (l .before .loop-test .taken) (λ _. l .if1 .left) (next .result .row) (next .result .word)
-    (next .ensures _ (c .before .before .before .before .events-at .ensures .0))
+    (next .ensures _ (c .before .before .before .before .events-at .ensures))
     (sym (c .before .fails .ensures) ∙ c .if2 .taken) in
     settled-watched (s .pre .3) (record { come = rw (add-one (at .at)) come; ended = λ other _. absurd (other refl) })
 
@@ -146,7 +146,7 @@ loop-again c =
     rw (add-one (at .at))
     (watch-goes-on (s .args .c) (s .pre .1 .1) (s .args .trace .now) (s .args .rows .now) (s .args .words .now) (settled (s .args .s) true) (ready s) (at .rows) (at .words) (at .at) (at .word)
     (at .kept) (at .inv .0) (at .inv .1) (l .before .loop-test .taken) (λ _. l .if1 .left) (next .result .row) (next .result .word)
-    (next .ensures _ (c .before .before .before .before .events-at .ensures .0))
+    (next .ensures _ (c .before .before .before .before .events-at .ensures))
     (sym (c .before .fails .ensures) ∙ c .if2 .left))
 
 same-length-5 : tie.Need-same-length-5 Inv-loop μ-loop

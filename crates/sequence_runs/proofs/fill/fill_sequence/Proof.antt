@@ -44,7 +44,7 @@ events-at-requires : tie.Need-events-at-requires Inv-loop μ-loop
 events-at-requires c κs = (start c .pre .0 .good, start c .pre .1 .0, low c)
 
 events-cycle-requires : tie.Need-events-cycle-requires Inv-loop μ-loop
-events-cycle-requires c κs = let l = c .before in (start l .pre .0 .good, start l .pre .1, l .before .loop .inv .possible-word, c .events-at .ensures .1)
+events-cycle-requires c κs = let l = c .before in (start l .pre .0 .good, start l .pre .1, l .before .loop .inv .possible-word)
 
 mul-rows : tie.Need-mul-rows Inv-loop μ-loop
 mul-rows c = let l = c .before .before in omega (arith, low l, start l .pre .0 .short)
@@ -72,7 +72,7 @@ loop-again c =
     let next = c .events-cycle in
     rw (add-one (at .at))
     (filling-more (s .args .c) (s .args .trace .now) (s .args .rows .now) (s .args .words .now) (settled (s .args .s) false) (ready s) refl (at .rows) (at .words)
-    (at .at) (at .word) (at .inv) (l .loop-test .taken) (next .result .row) (next .result .word) (next .ensures _ (c .before .events-at .ensures .0)))
+    (at .at) (at .word) (at .inv) (l .loop-test .taken) (next .result .row) (next .result .word) (next .ensures _ (c .before .events-at .ensures)))
 
 same-length : tie.Need-same-length Inv-loop μ-loop
 same-length c = c .before .loop .inv .rows-are .same-length

@@ -53,7 +53,7 @@ events-at-requires : tie.Need-events-at-requires Inv-loop μ-loop
 events-at-requires c κs = (start c .pre .0 .good, start c .pre .1 .0, low c)
 
 events-cycle-requires : tie.Need-events-cycle-requires Inv-loop μ-loop
-events-cycle-requires c κs = let l = c .before in (start l .pre .0 .good, start l .pre .1, l .before .before .loop .inv .possible-word, c .events-at .ensures .1)
+events-cycle-requires c κs = let l = c .before in (start l .pre .0 .good, start l .pre .1, l .before .before .loop .inv .possible-word)
 
 mul-kept : tie.Need-mul-kept Inv-loop μ-loop
 mul-kept c = let l = c .before .before in omega (arith, low l, start l .pre .0 .short)
@@ -94,7 +94,7 @@ loop-again c =
     rw (add-one (at .at))
     (running-more (s .args .c) (s .args .trace .now) (s .args .rows .now) (s .args .words .now) (settled (s .args .s) true) (ready s) (at .rows) (at .words) (at .at)
     (at .word) (at .kept) (at .inv) (l .before .loop-test .taken) (λ _. l .if1 .left) (next .result .row) (next .result .word)
-    (next .ensures _ (c .before .before .events-at .ensures .0)))
+    (next .ensures _ (c .before .before .events-at .ensures)))
 
 same-length-3 : tie.Need-same-length-3 Inv-loop μ-loop
 same-length-3 c = c .before .loop .inv .rows-are .same-length

@@ -12,7 +12,7 @@ use Rattle.rules.specs.Step.{leftIn, referenceIn}
 use Rattle.rules.proofs.Good.{stability-config}
 use Rattle.rules.proofs.TriggerWords.{WordParts, word-parts}
 use Rattle.trigger.proofs.TriggerCode.{compared-steps, compared-row, last-left, word-before, no-trigger, open-window, left-of}
-use Rattle.stability.specs.Tracked.{Reads}
+use Rattle.stability.specs.Tracked.{Tracks}
 use borrow.Author.Needs.{needs}
 use Rattle.stability.proofs.step.compared_step.Statement.{statement}
 use Rattle.stability.proofs.step.compared_step.Tie as tie
@@ -37,14 +37,14 @@ tested s = le-leb (leftIn (s .args .word) - 1) (s .args .c .n - s .args .c .min)
 abbrev start : tie.After-window-row → tie.Start
 start r = r .before .before
 
-row-is : (r : tie.After-window-row) (f : Frame) → Reads (start r .args .c) f (start r .args .t) → r .window-row .result
+row-is : (r : tie.After-window-row) (f : Frame) → start r .args .enable ≡ enabled f → Tracks (start r .args .c) f (start r .args .t) → r .window-row .result
     ≡ rowOf
     (windowMarks (enabled f && knownP (start r .args .c) f && not (eqb (P (start r .args .c) f) (referenceIn (start r .args .word)))) false
     (eqb (leftIn (start r .args .word) - 1) 0) (enabled f && not (knownP (start r .args .c) f)))
-row-is r f reads =
+row-is r f on tracks =
     let s = start r in
-    compared-row (s .args .c) (s .args .word) f (s .pre .3) (left s) (s .args .t .enabled) (s .args .t .known) (s .args .t .value) (r .window-row .result)
-    (reads .enabled-is) (reads .known-is) (reads .value-is) (r .window-row .ensures)
+    compared-row (s .args .c) (s .args .word) f (s .pre .3) (left s) (s .args .enable) (s .args .t .known) (s .args .t .value) (r .window-row .result)
+    on (tracks .known-is) (tracks .value-is) (r .window-row .ensures)
 
 cast-changed : tie.Need-cast-changed
 cast-changed c = search needs
@@ -59,17 +59,17 @@ sub-t18 : tie.Need-sub-t18
 sub-t18 c = search needs
 
 returns : tie.Need-returns
-returns c = λ f reads.
+returns c = λ f on tracks.
     let s = c .before .before .before in
     compared-steps (s .args .c) (s .args .word) f (low s) (leftIn (s .args .word) - 1) false (no-trigger _ _ _ (some s)) (open-window _ _ _ (some s))
-    (left-of _ _ _ (some s) (leftIn (s .args .word))) (le-leb (2 ^ 48) (s .args .word) (s .pre .3)) (tested s) (c .before .window-row .result) 0 (row-is (c .before) f reads)
+    (left-of _ _ _ (some s) (leftIn (s .args .word))) (le-leb (2 ^ 48) (s .args .word) (s .pre .3)) (tested s) (c .before .window-row .result) 0 (row-is (c .before) f on tracks)
     (rw (sym (last-left _ (left s)) ∙ c .if1 .taken) refl)
 
 returns-2 : tie.Need-returns-2
-returns-2 c = λ f reads.
+returns-2 c = λ f on tracks.
     let s = c .before .before .before in
     compared-steps (s .args .c) (s .args .word) f (low s) (leftIn (s .args .word) - 1) false (no-trigger _ _ _ (some s)) (open-window _ _ _ (some s))
-    (left-of _ _ _ (some s) (leftIn (s .args .word))) (le-leb (2 ^ 48) (s .args .word) (s .pre .3)) (tested s) (c .before .window-row .result) (s .args .word - 1) (row-is (c .before) f reads)
+    (left-of _ _ _ (some s) (leftIn (s .args .word))) (le-leb (2 ^ 48) (s .args .word) (s .pre .3)) (tested s) (c .before .window-row .result) (s .args .word - 1) (row-is (c .before) f on tracks)
     (rw (sym (last-left _ (left s)) ∙ c .if1 .left) (word-before (s .args .word) (s .pre .3) (left s)))
 
 pub compared-step-spec : {M : Type 1} → statement M

@@ -13,9 +13,9 @@ tracked-in-requires : tie.Need-tracked-in-requires
 tracked-in-requires c κs = search needs
 
 returns : tie.Need-returns
-returns c =
+returns c = λ o.
     let s = c .before .before .before in
-    subst (λ (f : Frame). Tracks (s .args .c) f (c .tracked-in .result)) (c .before .frame-at .ensures) (c .tracked-in .ensures)
+    subst (λ (f : Frame). Tracks (s .args .c) f (c .tracked-in .result)) (c .before .frame-at .ensures) (c .tracked-in .ensures o)
 
 pub tracked-at-spec : {M : Type 1} → statement M
 tracked-at-spec = tie.close (tie.spec frame-at-requires tracked-in-requires returns)

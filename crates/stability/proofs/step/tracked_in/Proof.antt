@@ -1,77 +1,54 @@
--- `stability::step::tracked_in` meets its contract. Assumes nothing.
-use mathlib.Core.Path.{_≡_, refl, sym, ap, _∙_}
-use mathlib.Core.Bool.{Bool, true, false, not}
-use borrow.Author.Tests.{not-true, not-false}
+-- `stability::step::tracked_in` meets its contract: where no wire is unknown, the port is known, and a port that is known reads as its wires do. Assumes nothing.
+use mathlib.Core.Path.{sym, _∙_}
+use borrow.Author.Tests.{not-true}
 use Rattle.bits.proofs.Tests.{of-true, of-false}
-use Rattle.bus.specs.Range.{valueOf}
-use Rattle.rules.specs.Frame.{up, knownP}
-use Rattle.rules.proofs.Good.{p-within, q-within, stability-config}
+use Rattle.bus.proofs.Known.{none-known, known-is, read-known}
+use Rattle.rules.specs.Frame.{frameWord, unknown}
+use Rattle.rules.proofs.Good.{p-within}
 use borrow.Author.Needs.{needs}
 use Rattle.stability.proofs.step.tracked_in.Statement.{statement}
 use Rattle.stability.proofs.step.tracked_in.Tie as tie
 
-running : (e : tie.Else1) → up (e .before .before .args .t2) ≡ true
-running e = sym (e .before .out-of-reset .ensures) ∙ not-false _ (e .if1 .left)
+abbrev start : tie.After-masked-value → tie.Start
+start c = c .before .before .before .before .before
 
-out-of-reset-requires : tie.Need-out-of-reset-requires
-out-of-reset-requires c κs = search needs
+is-open-requires : tie.Need-is-open-requires
+is-open-requires c κs = search needs
 
 returns : tie.Need-returns
-returns c =
-    let down : up (c .before .before .args .t2) ≡ false = sym (c .before .out-of-reset .ensures) ∙ not-true _ (c .if1 .taken) in
-    record { up-is = sym down; reads = λ u. absurd (of-false down (of-true u)) }
+returns c = λ o. absurd (of-false (sym (c .before .is-open .ensures) ∙ not-true _ (c .if1 .taken)) (of-true o))
 
-is-enabled-requires : tie.Need-is-enabled-requires
-is-enabled-requires c κs = running (c .before)
-
-sees-trigger-requires : tie.Need-sees-trigger-requires
-sees-trigger-requires c κs =
-    let e = c .before .before in
-    let s = e .before .before in
-    (q-within (s .args .c) (s .pre .0), stability-config (s .args .c) (s .pre .0) (s .pre .1) .q-width, running e)
-
-sample-requires : tie.Need-sample-requires
-sample-requires c κs = search needs
+element-copy-out-masked-value : tie.Need-element-copy-out-masked-value
+element-copy-out-masked-value c = search needs
 
 masked-value-requires : tie.Need-masked-value-requires
-masked-value-requires c κs = let s = c .before .before .before .before .before .before in p-within (s .args .c) (s .pre .0)
+masked-value-requires c κs = let s = c .before .before .before .before in p-within (s .args .c) (s .pre)
 
-element-copy-out-has-one : tie.Need-element-copy-out-has-one
-element-copy-out-has-one c = search needs
-
-has-one-requires : tie.Need-has-one-requires
-has-one-requires c κs = let s = c .before .before .before .before .before .before .before .before in p-within (s .args .c) (s .pre .0)
+element-copy-out-unknown : tie.Need-element-copy-out-unknown
+element-copy-out-unknown c = search needs
 
 returns-2 : tie.Need-returns-2
-returns-2 c =
-    let value = c .before .before in
-    let seen = value .before .before in
-    let e = seen .before .before .before in
-    let a = e .before .before .args in
+returns-2 c = λ _.
+    let v = c .before .before in
+    let a = start v .args in
     record {
-      up-is = sym (running e);
-      reads = λ _. record {
-        enabled-is = seen .before .is-enabled .ensures;
-        trigger-is = seen .sees-trigger .ensures;
-        value-is = value .masked-value .ensures ∙ ap (valueOf (a .c .p)) (value .before .sample .ensures);
-        known-is = ap not (c .has-one .ensures) ∙ twice (knownP (a .c) (a .t2));
-      };
+      known-is = none-known (a .c .p) (unknown (a .t2) 1) (c .if2 .taken);
+      value-is = λ e. v .masked-value .ensures ∙ read-known (a .c .p) (frameWord (a .t2) 1) (unknown (a .t2) 1) e;
     }
-  where
-    twice : (b : Bool) → not (not b) ≡ b
-    twice true = refl
-    twice false = refl
+
+has-one-requires : tie.Need-has-one-requires
+has-one-requires c κs = let s = start (c .before .before) in p-within (s .args .c) (s .pre)
+
+returns-3 : tie.Need-returns-3
+returns-3 c = λ _.
+    let v = c .before .before .before in
+    let a = start v .args in
+    record {
+      known-is = known-is (a .c .p) (unknown (a .t2) 1) (c .has-one .result) (c .has-one .ensures);
+      value-is = λ e. v .masked-value .ensures ∙ read-known (a .c .p) (frameWord (a .t2) 1) (unknown (a .t2) 1) e;
+    }
 
 pub tracked-in-spec : {M : Type 1} → statement M
 tracked-in-spec =
     tie.close
-    (tie.spec
-    out-of-reset-requires
-    returns
-    is-enabled-requires
-    sees-trigger-requires
-    sample-requires
-    masked-value-requires
-    element-copy-out-has-one
-    has-one-requires
-    returns-2)
+    (tie.spec is-open-requires returns element-copy-out-masked-value masked-value-requires element-copy-out-unknown returns-2 has-one-requires returns-3)

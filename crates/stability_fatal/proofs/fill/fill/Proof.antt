@@ -43,11 +43,11 @@ loop-holds c =
     let s = c .before .before .before .before .before in
     (filling-none (fatally (s .args .c)) (s .args .trace .now) (s .args .rows .now) (s .args .words .now) (settled (s .args .s) false) (ready s) refl, s .pre .2)
 
-add-tracked-at : tie.Need-add-tracked-at Inv-loop μ-loop
-add-tracked-at c = omega (arith, low c, start c .pre .0 .short)
+add-t : tie.Need-add-t Inv-loop μ-loop
+add-t c = omega (arith, low c, start c .pre .0 .short)
 
-tracked-at-requires : tie.Need-tracked-at-requires Inv-loop μ-loop
-tracked-at-requires c κs =
+seen-at-requires : tie.Need-seen-at-requires Inv-loop μ-loop
+seen-at-requires c κs =
     let l = c in
     let s = start l in
     let at = l .before .loop in
@@ -56,9 +56,19 @@ tracked-at-requires c κs =
     (at .at) (at .word) (keptFrom (s .args .words .now) (s .args .s .at) (s .args .s .kept) (at .at)) (at .inv .0) (at .inv .1) in
     (done .0, s .pre .1 .0, low l)
 
+tracked-at-requires : tie.Need-tracked-at-requires Inv-loop μ-loop
+tracked-at-requires c κs =
+    let l = c .before in
+    let s = start l in
+    let at = l .before .loop in
+    let done =
+    watch-ready (s .args .c) (s .pre .1 .1) (s .args .trace .now) (s .args .rows .now) (s .args .words .now) (settled (s .args .s) false) (ready s) (at .rows) (at .words)
+    (at .at) (at .word) (keptFrom (s .args .words .now) (s .args .s .at) (s .args .s .kept) (at .at)) (at .inv .0) (at .inv .1) in
+    (done .0, low l)
+
 tracked-cycle-requires : tie.Need-tracked-cycle-requires Inv-loop μ-loop
 tracked-cycle-requires c κs =
-    let l = c .before in
+    let l = c .before .before in
     let s = start l in
     let at = l .before .loop in
     let done =
@@ -67,44 +77,44 @@ tracked-cycle-requires c κs =
     (done .0, s .pre .1, done .1)
 
 mul-rows : tie.Need-mul-rows Inv-loop μ-loop
-mul-rows c = let l = c .before .before in omega (arith, low l, start l .pre .0 .short)
+mul-rows c = let l = c .before .before .before in omega (arith, low l, start l .pre .0 .short)
 
 slice-write-rows : tie.Need-slice-write-rows Inv-loop μ-loop
 slice-write-rows c =
-    let l = c .before .before in omega (arith, l .loop-test .taken, l .before .loop .inv .0 .rows-are .same-length, start l .pre .0 .rows-hold)
+    let l = c .before .before .before in omega (arith, l .loop-test .taken, l .before .loop .inv .0 .rows-are .same-length, start l .pre .0 .rows-hold)
 
 fails-requires : tie.Need-fails-requires Inv-loop μ-loop
 fails-requires c κs = search needs
 
 mul-before : tie.Need-mul-before Inv-loop μ-loop
-mul-before c = let l = c .before .before .before .before in omega (arith, low l, start l .pre .0 .short)
+mul-before c = let l = c .before .before .before .before .before in omega (arith, low l, start l .pre .0 .short)
 
 slice-read-before : tie.Need-slice-read-before Inv-loop μ-loop
 slice-read-before c =
-    let l = c .before .before .before .before .before in
+    let l = c .before .before .before .before .before .before in
     omega (arith, l .loop-test .taken, l .before .loop .inv .0 .words-are .same-length, start l .pre .0 .words-hold)
 
 mul-words : tie.Need-mul-words Inv-loop μ-loop
-mul-words c = let l = c .before .before .before .before .before in omega (arith, low l, start l .pre .0 .short)
+mul-words c = let l = c .before .before .before .before .before .before in omega (arith, low l, start l .pre .0 .short)
 
 slice-write-words : tie.Need-slice-write-words Inv-loop μ-loop
 slice-write-words c =
-    let l = c .before .before .before .before .before in
+    let l = c .before .before .before .before .before .before in
     omega (arith, l .loop-test .taken, l .before .loop .inv .0 .words-are .same-length, start l .pre .0 .words-hold)
 
 add-behind : tie.Need-add-behind Inv-loop μ-loop
-add-behind c = let l = c .before .before .before .before .before in omega (arith, low l, start l .pre .0 .short)
+add-behind c = let l = c .before .before .before .before .before .before in omega (arith, low l, start l .pre .0 .short)
 
 returns : tie.Need-returns Inv-loop μ-loop
 returns c =
-    let l = c .before .before .before .before .before in
+    let l = c .before .before .before .before .before .before in
     let s = start l in
     let at = l .before .loop in
     let next = c .before .before .before .tracked-cycle in
     let come =
     fill-fails (s .args .c) (s .pre .1 .1) (s .args .trace .now) (s .args .rows .now) (s .args .words .now) (settled (s .args .s) false) (ready s) refl (at .rows) (at .words)
     (at .at) (at .word) (at .inv .0) (at .inv .1) (l .loop-test .taken) (next .result .row) (next .result .word)
-    (next .ensures _ (c .before .before .before .before .tracked-at .ensures)) (sym (c .before .before .fails .ensures) ∙ c .before .if1 .taken) in
+    (next .ensures _ (c .before .before .before .before .before .seen-at .ensures) (c .before .before .before .before .tracked-at .ensures)) (sym (c .before .before .fails .ensures) ∙ c .before .if1 .taken) in
     settled-watched (s .pre .3) (record { come = rw (add-one (at .at)) come; ended = λ other _. absurd (other refl) })
 
 same-length : tie.Need-same-length Inv-loop μ-loop
@@ -114,29 +124,29 @@ same-length-2 : tie.Need-same-length-2 Inv-loop μ-loop
 same-length-2 c = returns c .come .words-are .same-length
 
 mul-words-2 : tie.Need-mul-words-2 Inv-loop μ-loop
-mul-words-2 c = let l = c .before .before .before .before in omega (arith, low l, start l .pre .0 .short)
+mul-words-2 c = let l = c .before .before .before .before .before in omega (arith, low l, start l .pre .0 .short)
 
 slice-write-words-2 : tie.Need-slice-write-words-2 Inv-loop μ-loop
 slice-write-words-2 c =
-    let l = c .before .before .before .before in
+    let l = c .before .before .before .before .before in
     omega (arith, l .loop-test .taken, l .before .loop .inv .0 .words-are .same-length, start l .pre .0 .words-hold)
 
 add-at : tie.Need-add-at Inv-loop μ-loop
-add-at c = let l = c .before .before .before .before in omega (arith, low l, start l .pre .0 .short)
+add-at c = let l = c .before .before .before .before .before in omega (arith, low l, start l .pre .0 .short)
 
 loop-less : tie.Need-loop-less Inv-loop μ-loop
-loop-less c = let l = c .before .before .before .before in omega (arith, l .loop-test .taken)
+loop-less c = let l = c .before .before .before .before .before in omega (arith, l .loop-test .taken)
 
 loop-again : tie.Need-loop-again Inv-loop μ-loop
 loop-again c =
-    let l = c .before .before .before .before in
+    let l = c .before .before .before .before .before in
     let s = start l in
     let at = l .before .loop in
     let next = c .before .before .tracked-cycle in
     rw (add-one (at .at))
     (fill-goes-on (s .args .c) (s .pre .1 .1) (s .args .trace .now) (s .args .rows .now) (s .args .words .now) (settled (s .args .s) false) (ready s) refl (at .rows) (at .words)
     (at .at) (at .word) (at .inv .0) (at .inv .1) (l .loop-test .taken) (next .result .row) (next .result .word)
-    (next .ensures _ (c .before .before .before .tracked-at .ensures)) (sym (c .before .fails .ensures) ∙ c .if1 .left))
+    (next .ensures _ (c .before .before .before .before .seen-at .ensures) (c .before .before .before .tracked-at .ensures)) (sym (c .before .fails .ensures) ∙ c .if1 .left))
 
 same-length-3 : tie.Need-same-length-3 Inv-loop μ-loop
 same-length-3 c = c .before .loop .inv .0 .rows-are .same-length
@@ -163,7 +173,8 @@ fill-spec =
     μ-loop
     kept-at-end-requires
     loop-holds
-    add-tracked-at
+    add-t
+    seen-at-requires
     tracked-at-requires
     tracked-cycle-requires
     mul-rows

@@ -51,11 +51,11 @@ returns c =
     let s = c .before .before .before .before .before .before in
     settled-watched (s .pre .3) (record { come = at .inv .0; ended = λ _ _. (refl, c .if1 .taken) })
 
-add-tracked-at : tie.Need-add-tracked-at Inv-loop μ-loop
-add-tracked-at c = omega (arith, low c, start c .pre .0 .short)
+add-t : tie.Need-add-t Inv-loop μ-loop
+add-t c = omega (arith, low c, start c .pre .0 .short)
 
-tracked-at-requires : tie.Need-tracked-at-requires Inv-loop μ-loop
-tracked-at-requires c κs =
+seen-at-requires : tie.Need-seen-at-requires Inv-loop μ-loop
+seen-at-requires c κs =
     let l = c in
     let s = start l in
     let at = l .before .before .loop in
@@ -64,9 +64,19 @@ tracked-at-requires c κs =
     (at .word) (at .kept) (at .inv .0) (at .inv .1) in
     (ready .0, s .pre .1 .0, low l)
 
+tracked-at-requires : tie.Need-tracked-at-requires Inv-loop μ-loop
+tracked-at-requires c κs =
+    let l = c .before in
+    let s = start l in
+    let at = l .before .before .loop in
+    let ready =
+    watch-ready (s .args .c) (s .pre .1 .1) (s .args .trace .now) (s .args .rows .now) (s .args .words .now) (settled (s .args .s) true) (ready s) (at .rows) (at .words) (at .at)
+    (at .word) (at .kept) (at .inv .0) (at .inv .1) in
+    (ready .0, low l)
+
 tracked-cycle-requires : tie.Need-tracked-cycle-requires Inv-loop μ-loop
 tracked-cycle-requires c κs =
-    let l = c .before in
+    let l = c .before .before in
     let s = start l in
     let at = l .before .before .loop in
     let ready =
@@ -75,45 +85,45 @@ tracked-cycle-requires c κs =
     (ready .0, s .pre .1, ready .1)
 
 mul-kept : tie.Need-mul-kept Inv-loop μ-loop
-mul-kept c = let l = c .before .before in omega (arith, low l, start l .pre .0 .short)
+mul-kept c = let l = c .before .before .before in omega (arith, low l, start l .pre .0 .short)
 
 slice-read-kept : tie.Need-slice-read-kept Inv-loop μ-loop
 slice-read-kept c =
-    let l = c .before .before .before in
+    let l = c .before .before .before .before in
     omega (arith, l .before .loop-test .taken, l .before .before .loop .inv .0 .words-are .same-length, start l .pre .0 .words-hold)
 
 mul-rows : tie.Need-mul-rows Inv-loop μ-loop
-mul-rows c = let l = c .before .before .before in omega (arith, low l, start l .pre .0 .short)
+mul-rows c = let l = c .before .before .before .before in omega (arith, low l, start l .pre .0 .short)
 
 slice-write-rows : tie.Need-slice-write-rows Inv-loop μ-loop
 slice-write-rows c =
-    let l = c .before .before .before in
+    let l = c .before .before .before .before in
     omega (arith, l .before .loop-test .taken, l .before .before .loop .inv .0 .rows-are .same-length, start l .pre .0 .rows-hold)
 
 fails-requires : tie.Need-fails-requires Inv-loop μ-loop
 fails-requires c κs = search needs
 
 mul-words : tie.Need-mul-words Inv-loop μ-loop
-mul-words c = let l = c .before .before .before .before .before in omega (arith, low l, start l .pre .0 .short)
+mul-words c = let l = c .before .before .before .before .before .before in omega (arith, low l, start l .pre .0 .short)
 
 slice-write-words : tie.Need-slice-write-words Inv-loop μ-loop
 slice-write-words c =
-    let l = c .before .before .before .before .before in
+    let l = c .before .before .before .before .before .before in
     omega (arith, l .before .loop-test .taken, l .before .before .loop .inv .0 .words-are .same-length, start l .pre .0 .words-hold)
 
 add-behind : tie.Need-add-behind Inv-loop μ-loop
-add-behind c = let l = c .before .before .before .before .before in omega (arith, low l, start l .pre .0 .short)
+add-behind c = let l = c .before .before .before .before .before .before in omega (arith, low l, start l .pre .0 .short)
 
 returns-2 : tie.Need-returns-2 Inv-loop μ-loop
 returns-2 c =
-    let l = c .before .before .before .before .before in
+    let l = c .before .before .before .before .before .before in
     let s = start l in
     let at = l .before .before .loop in
     let next = c .before .before .before .tracked-cycle in
     let come =
     watch-fails (s .args .c) (s .pre .1 .1) (s .args .trace .now) (s .args .rows .now) (s .args .words .now) (settled (s .args .s) true) (ready s) (at .rows) (at .words) (at .at) (at .word)
     (at .kept) (at .inv .0) (at .inv .1) (l .before .loop-test .taken) (λ _. l .if1 .left) (next .result .row) (next .result .word)
-    (next .ensures _ (c .before .before .before .before .tracked-at .ensures))
+    (next .ensures _ (c .before .before .before .before .before .seen-at .ensures) (c .before .before .before .before .tracked-at .ensures))
     (sym (c .before .fails .ensures) ∙ c .if2 .taken) in
     settled-watched (s .pre .3) (record { come = rw (add-one (at .at)) come; ended = λ other _. absurd (other refl) })
 
@@ -124,29 +134,29 @@ same-length-4 : tie.Need-same-length-4 Inv-loop μ-loop
 same-length-4 c = returns-2 c .come .words-are .same-length
 
 mul-words-2 : tie.Need-mul-words-2 Inv-loop μ-loop
-mul-words-2 c = let l = c .before .before .before .before .before in omega (arith, low l, start l .pre .0 .short)
+mul-words-2 c = let l = c .before .before .before .before .before .before in omega (arith, low l, start l .pre .0 .short)
 
 slice-write-words-2 : tie.Need-slice-write-words-2 Inv-loop μ-loop
 slice-write-words-2 c =
-    let l = c .before .before .before .before .before in
+    let l = c .before .before .before .before .before .before in
     omega (arith, l .before .loop-test .taken, l .before .before .loop .inv .0 .words-are .same-length, start l .pre .0 .words-hold)
 
 add-at : tie.Need-add-at Inv-loop μ-loop
-add-at c = let l = c .before .before .before .before .before in omega (arith, low l, start l .pre .0 .short)
+add-at c = let l = c .before .before .before .before .before .before in omega (arith, low l, start l .pre .0 .short)
 
 loop-less : tie.Need-loop-less Inv-loop μ-loop
-loop-less c = let l = c .before .before .before .before .before in omega (arith, l .before .loop-test .taken)
+loop-less c = let l = c .before .before .before .before .before .before in omega (arith, l .before .loop-test .taken)
 
 loop-again : tie.Need-loop-again Inv-loop μ-loop
 loop-again c =
-    let l = c .before .before .before .before .before in
+    let l = c .before .before .before .before .before .before in
     let s = start l in
     let at = l .before .before .loop in
     let next = c .before .before .before .tracked-cycle in
     rw (add-one (at .at))
     (watch-goes-on (s .args .c) (s .pre .1 .1) (s .args .trace .now) (s .args .rows .now) (s .args .words .now) (settled (s .args .s) true) (ready s) (at .rows) (at .words) (at .at) (at .word)
     (at .kept) (at .inv .0) (at .inv .1) (l .before .loop-test .taken) (λ _. l .if1 .left) (next .result .row) (next .result .word)
-    (next .ensures _ (c .before .before .before .before .tracked-at .ensures))
+    (next .ensures _ (c .before .before .before .before .before .seen-at .ensures) (c .before .before .before .before .tracked-at .ensures))
     (sym (c .before .fails .ensures) ∙ c .if2 .left))
 
 same-length-5 : tie.Need-same-length-5 Inv-loop μ-loop
@@ -170,7 +180,8 @@ seek-spec =
     same-length
     same-length-2
     returns
-    add-tracked-at
+    add-t
+    seen-at-requires
     tracked-at-requires
     tracked-cycle-requires
     mul-kept

@@ -37,42 +37,45 @@ loop-holds c =
     let s = c .before .before .before .before .before in
     filling-none (s .args .c) (s .args .trace .now) (s .args .rows .now) (s .args .words .now) (settled (s .args .s) false) (ready s) refl
 
-add-tracked-at : tie.Need-add-tracked-at Inv-loop μ-loop
-add-tracked-at c = omega (arith, low c, start c .pre .0 .short)
+add-t : tie.Need-add-t Inv-loop μ-loop
+add-t c = omega (arith, low c, start c .pre .0 .short)
+
+seen-at-requires : tie.Need-seen-at-requires Inv-loop μ-loop
+seen-at-requires c κs = (start c .pre .0 .good, start c .pre .1 .0, low c)
 
 tracked-at-requires : tie.Need-tracked-at-requires Inv-loop μ-loop
-tracked-at-requires c κs = (start c .pre .0 .good, start c .pre .1 .0, low c)
+tracked-at-requires c κs = let l = c .before in (start l .pre .0 .good, low l)
 
 tracked-cycle-requires : tie.Need-tracked-cycle-requires Inv-loop μ-loop
-tracked-cycle-requires c κs = let l = c .before in (start l .pre .0 .good, start l .pre .1, l .before .loop .inv .possible-word)
+tracked-cycle-requires c κs = let l = c .before .before in (start l .pre .0 .good, start l .pre .1, l .before .loop .inv .possible-word)
 
 mul-rows : tie.Need-mul-rows Inv-loop μ-loop
-mul-rows c = let l = c .before .before in omega (arith, low l, start l .pre .0 .short)
+mul-rows c = let l = c .before .before .before in omega (arith, low l, start l .pre .0 .short)
 
 slice-write-rows : tie.Need-slice-write-rows Inv-loop μ-loop
-slice-write-rows c = let l = c .before .before in omega (arith, l .before .loop .inv .rows-are .same-length, start l .pre .0 .rows-hold)
+slice-write-rows c = let l = c .before .before .before in omega (arith, l .before .loop .inv .rows-are .same-length, start l .pre .0 .rows-hold)
 
 mul-words : tie.Need-mul-words Inv-loop μ-loop
-mul-words c = let l = c .before .before in omega (arith, low l, start l .pre .0 .short)
+mul-words c = let l = c .before .before .before in omega (arith, low l, start l .pre .0 .short)
 
 slice-write-words : tie.Need-slice-write-words Inv-loop μ-loop
-slice-write-words c = let l = c .before .before in omega (arith, l .before .loop .inv .words-are .same-length, start l .pre .0 .words-hold)
+slice-write-words c = let l = c .before .before .before in omega (arith, l .before .loop .inv .words-are .same-length, start l .pre .0 .words-hold)
 
 add-at : tie.Need-add-at Inv-loop μ-loop
-add-at c = let l = c .before .before in omega (arith, low l, start l .pre .0 .short)
+add-at c = let l = c .before .before .before in omega (arith, low l, start l .pre .0 .short)
 
 loop-less : tie.Need-loop-less Inv-loop μ-loop
 loop-less c = omega arith
 
 loop-again : tie.Need-loop-again Inv-loop μ-loop
 loop-again c =
-    let l = c .before .before in
+    let l = c .before .before .before in
     let s = start l in
     let at = l .before .loop in
     let next = c .tracked-cycle in
     rw (add-one (at .at))
     (filling-more (s .args .c) (s .args .trace .now) (s .args .rows .now) (s .args .words .now) (settled (s .args .s) false) (ready s) refl (at .rows) (at .words)
-    (at .at) (at .word) (at .inv) (l .loop-test .taken) (next .result .row) (next .result .word) (next .ensures _ (c .before .tracked-at .ensures)))
+    (at .at) (at .word) (at .inv) (l .loop-test .taken) (next .result .row) (next .result .word) (next .ensures _ (c .before .before .seen-at .ensures) (c .before .tracked-at .ensures)))
 
 same-length : tie.Need-same-length Inv-loop μ-loop
 same-length c = c .before .loop .inv .rows-are .same-length
@@ -98,7 +101,8 @@ fill-stability-spec =
     μ-loop
     kept-at-end-requires
     loop-holds
-    add-tracked-at
+    add-t
+    seen-at-requires
     tracked-at-requires
     tracked-cycle-requires
     mul-rows

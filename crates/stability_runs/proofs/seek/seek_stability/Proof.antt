@@ -46,55 +46,58 @@ returns c =
     settled-ran (s .args .c) (s .args .trace .now) (s .args .rows .now) (s .args .words .now) (s .args .s) true (at .rows) (at .words) _ (s .pre .2)
     (record { come = at .inv; stopped = λ _. (refl, c .if1 .taken) })
 
-add-tracked-at : tie.Need-add-tracked-at Inv-loop μ-loop
-add-tracked-at c = omega (arith, low c, start c .pre .0 .short)
+add-t : tie.Need-add-t Inv-loop μ-loop
+add-t c = omega (arith, low c, start c .pre .0 .short)
+
+seen-at-requires : tie.Need-seen-at-requires Inv-loop μ-loop
+seen-at-requires c κs = (start c .pre .0 .good, start c .pre .1 .0, low c)
 
 tracked-at-requires : tie.Need-tracked-at-requires Inv-loop μ-loop
-tracked-at-requires c κs = (start c .pre .0 .good, start c .pre .1 .0, low c)
+tracked-at-requires c κs = let l = c .before in (start l .pre .0 .good, low l)
 
 tracked-cycle-requires : tie.Need-tracked-cycle-requires Inv-loop μ-loop
-tracked-cycle-requires c κs = let l = c .before in (start l .pre .0 .good, start l .pre .1, l .before .before .loop .inv .possible-word)
+tracked-cycle-requires c κs = let l = c .before .before in (start l .pre .0 .good, start l .pre .1, l .before .before .loop .inv .possible-word)
 
 mul-kept : tie.Need-mul-kept Inv-loop μ-loop
-mul-kept c = let l = c .before .before in omega (arith, low l, start l .pre .0 .short)
+mul-kept c = let l = c .before .before .before in omega (arith, low l, start l .pre .0 .short)
 
 slice-read-kept : tie.Need-slice-read-kept Inv-loop μ-loop
 slice-read-kept c =
-    let l = c .before .before .before in
+    let l = c .before .before .before .before in
     omega (arith, l .before .loop-test .taken, l .before .before .loop .inv .words-are .same-length, start l .pre .0 .words-hold)
 
 mul-rows : tie.Need-mul-rows Inv-loop μ-loop
-mul-rows c = let l = c .before .before .before in omega (arith, low l, start l .pre .0 .short)
+mul-rows c = let l = c .before .before .before .before in omega (arith, low l, start l .pre .0 .short)
 
 slice-write-rows : tie.Need-slice-write-rows Inv-loop μ-loop
 slice-write-rows c =
-    let l = c .before .before .before in
+    let l = c .before .before .before .before in
     omega (arith, l .before .loop-test .taken, l .before .before .loop .inv .rows-are .same-length, start l .pre .0 .rows-hold)
 
 mul-words : tie.Need-mul-words Inv-loop μ-loop
-mul-words c = let l = c .before .before .before in omega (arith, low l, start l .pre .0 .short)
+mul-words c = let l = c .before .before .before .before in omega (arith, low l, start l .pre .0 .short)
 
 slice-write-words : tie.Need-slice-write-words Inv-loop μ-loop
 slice-write-words c =
-    let l = c .before .before .before in
+    let l = c .before .before .before .before in
     omega (arith, l .before .loop-test .taken, l .before .before .loop .inv .words-are .same-length, start l .pre .0 .words-hold)
 
 add-at : tie.Need-add-at Inv-loop μ-loop
-add-at c = let l = c .before .before .before in omega (arith, low l, start l .pre .0 .short)
+add-at c = let l = c .before .before .before .before in omega (arith, low l, start l .pre .0 .short)
 
 loop-less : tie.Need-loop-less Inv-loop μ-loop
-loop-less c = omega (arith, c .before .before .before .before .loop-test .taken)
+loop-less c = omega (arith, c .before .before .before .before .before .loop-test .taken)
 
 loop-again : tie.Need-loop-again Inv-loop μ-loop
 loop-again c =
-    let l = c .before .before .before in
+    let l = c .before .before .before .before in
     let s = start l in
     let at = l .before .before .loop in
     let next = c .before .tracked-cycle in
     rw (add-one (at .at))
     (running-more (s .args .c) (s .args .trace .now) (s .args .rows .now) (s .args .words .now) (settled (s .args .s) true) (ready s) (at .rows) (at .words) (at .at)
     (at .word) (at .kept) (at .inv) (l .before .loop-test .taken) (λ _. l .if1 .left) (next .result .row) (next .result .word)
-    (next .ensures _ (c .before .before .tracked-at .ensures)))
+    (next .ensures _ (c .before .before .before .seen-at .ensures) (c .before .before .tracked-at .ensures)))
 
 same-length-3 : tie.Need-same-length-3 Inv-loop μ-loop
 same-length-3 c = c .before .loop .inv .rows-are .same-length
@@ -119,7 +122,8 @@ seek-stability-spec =
     same-length
     same-length-2
     returns
-    add-tracked-at
+    add-t
+    seen-at-requires
     tracked-at-requires
     tracked-cycle-requires
     mul-kept

@@ -1,8 +1,8 @@
 -- `transition::step::descending_in` meets its contract: each port's value is read, within the wires that a configuration has. Assumes nothing.
 use mathlib.Core.Path.{_∙_}
+use Rattle.bus.proofs.Known.{read-known}
 use Rattle.rules.specs.Frame.{frameWord, unknown}
 use Rattle.rules.proofs.Good.{p-within, q-within, r-within}
-use Rattle.transition.proofs.TransitionCode.{read-known}
 use borrow.Author.Needs.{needs}
 use Rattle.transition.proofs.step.descending_in.Statement.{statement}
 use Rattle.transition.proofs.step.descending_in.Tie as tie

@@ -1,8 +1,9 @@
 -- `transition::step::known_in` meets its contract: where no word has a one, no port has. Assumes nothing.
 use lib.Bits.{bitOr}
+use Rattle.bus.proofs.Known.{none-known, known-is}
 use Rattle.rules.specs.Frame.{unknown}
 use Rattle.rules.proofs.Good.{p-within, q-within, r-within}
-use Rattle.transition.proofs.TransitionCode.{none-left, none-right, none-known, known-is}
+use Rattle.transition.proofs.TransitionCode.{none-left, none-right}
 use borrow.Author.Needs.{needs}
 use Rattle.transition.proofs.step.known_in.Statement.{statement}
 use Rattle.transition.proofs.step.known_in.Tie as tie
