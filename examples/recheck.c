@@ -3,7 +3,8 @@
  * P [3:0], with cycle 2 changed from 10 to 2. Then a call that is refused, and one that is refused because the record it is
  * given was spoiled. Then case N below the table: the value 6 is expected on P [0:2] from 1 to 3 cycles after a trigger, and
  * the failures are listed. Then case E made fatal: it stops in cycle 2, and an edit of that cycle lets it go on to the next
- * failure. Last, case A again, where one wire of cycle 1 becomes x.
+ * failure. Then case A again, where one wire of cycle 1 becomes x. Last, what the edit of case A would change, with nothing
+ * changed.
  *
  *     sh build.sh          builds and runs this example
  */
@@ -86,11 +87,11 @@ static void sample(uint32_t *trace, const uint32_t *samples)
     }
 }
 
-static void print_changes(const int32_t *answer)
+static void print_changes(uint64_t end, const int32_t *changes)
 {
-    printf("  stopped before cycle %" PRId32 "; changes of marks 1, 2, 4, 8, 16, 32:", answer[0]);
-    for (int i = 1; i <= MARKS; i++)
-        printf(" %" PRId32, answer[i]);
+    printf("  stopped before cycle %" PRIu64 "; changes of marks 1, 2, 4, 8, 16, 32:", end);
+    for (int i = 0; i < MARKS; i++)
+        printf(" %" PRId32, changes[i]);
     printf("\n");
 }
 
@@ -134,7 +135,7 @@ static void check_fatal(void)
     refusal = selvedgeon_recheck(FATAL_SEQUENCE, trace, TRACE_WORDS, rows, CYCLES, words, CYCLES, 2, 3, answer, ANSWER) >> 32;
     printf("cycle 2 becomes 7, recheck of cycles 2 to 2: %s\n", refusal_in_words(refusal));
     print_record(trace, rows, words);
-    print_changes(answer);
+    print_changes((uint64_t)answer[0], answer + 1);
 }
 
 /*
@@ -156,7 +157,26 @@ static void check_unknown(const uint32_t *samples)
     refusal = selvedgeon_recheck(SEQUENCE, trace, TRACE_WORDS, rows, CYCLES, words, CYCLES, 1, 2, answer, ANSWER) >> 32;
     printf("wire 2 of cycle 1 becomes x, recheck of cycles 1 to 1: %s\n", refusal_in_words(refusal));
     print_record(trace, rows, words);
-    print_changes(answer);
+    print_changes((uint64_t)answer[0], answer + 1);
+}
+
+/* the edit of cycle 2 is made, rechecked, taken back and rechecked in one call: the marks are in the end what they were */
+static void try_edit(const uint32_t *samples)
+{
+    uint32_t trace[TRACE_WORDS] = {0};
+    uint32_t frame[FRAME_WORDS] = {[RESET] = 1, [P] = 2};
+    uint32_t rows[CYCLES];
+    uint64_t words[CYCLES];
+
+    sample(trace, samples);
+    selvedgeon_check(SEQUENCE, trace, TRACE_WORDS, rows, CYCLES, words, CYCLES);
+    struct selvedgeon_taken_back tried = selvedgeon_edit_and_take_back(SEQUENCE, trace, TRACE_WORDS, rows, CYCLES, words,
+                                                                       CYCLES, 2, 3, frame, FRAME_WORDS);
+    printf("case A once more, if cycle 2 became 2: %s\n", refusal_in_words(tried.edit.refusal));
+    print_changes(tried.edit.end, tried.edit.changes);
+    printf("and as it is again: %s\n", refusal_in_words(tried.back.refusal));
+    print_changes(tried.back.end, tried.back.changes);
+    print_record(trace, rows, words);
 }
 
 int main(void)
@@ -176,7 +196,7 @@ int main(void)
     refusal = selvedgeon_recheck(SEQUENCE, trace, TRACE_WORDS, rows, CYCLES, words, CYCLES, 2, 3, answer, ANSWER) >> 32;
     printf("cycle 2 becomes 2, recheck of cycles 2 to 2: %s\n", refusal_in_words(refusal));
     print_record(trace, rows, words);
-    print_changes(answer);
+    print_changes((uint64_t)answer[0], answer + 1);
 
     refusal = selvedgeon_recheck(SEQUENCE, trace, TRACE_WORDS, rows, CYCLES, words, CYCLES, 4, 3, answer, ANSWER) >> 32;
     printf("recheck from 4 to 3: refused, %s\n", refusal_in_words(refusal));
@@ -189,5 +209,6 @@ int main(void)
     check_value();
     check_fatal();
     check_unknown(samples);
+    try_edit(samples);
     return 0;
 }

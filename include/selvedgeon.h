@@ -162,6 +162,39 @@ uint64_t selvedgeon_recheck(uint8_t kind, uint32_t n, uint8_t p_left, uint8_t p_
                             const uint32_t *trace, size_t trace_len, uint32_t *rows, size_t rows_len, uint64_t *words,
                             size_t words_len, uint64_t a, uint64_t b, int32_t *answer, size_t answer_len);
 
+/* what a recheck answers, as a struct; refused: every other number is 0, but with 7 the cycle */
+struct selvedgeon_rechecked {
+    uint32_t refusal;
+    uint64_t cycle;     /* with refusal 7 the lowest whose kept word is not possible, else 0 */
+    uint64_t end;       /* e, the cycle where the recheck stopped */
+    int32_t changes[6]; /* of the counts of the marks 1, 2, 4, 8, 16 and 32 */
+};
+
+/* the answers of two rechecks: after an edit, and after it was taken back */
+struct selvedgeon_taken_back {
+    struct selvedgeon_rechecked edit;
+    struct selvedgeon_rechecked back;
+};
+
+/*
+ * What an edit of cycles a to b-1 would change, with nothing changed in the end. Four things are done in this order: the
+ * samples, b-a frames of eight words, change places with those of cycles a to b-1 of the trace; rows and words, which are
+ * those of the old trace, are rechecked from a to b; the old samples change places with the new ones again; rows and words
+ * are rechecked from a to b again.
+ * Answers what the two rechecks answer. From the record that selvedgeon_check or selvedgeon_recheck left for the same
+ * configuration and the trace as it is: both are done, edit.end and edit.changes are those of the edit, and back.changes
+ * take them back, mark by mark.
+ * Writes: trace and samples, which are in the end as they were, whatever was lent; rows and words, which from such a record
+ * are in the end as they were too, and from another one are what the two rechecks left.
+ * Refusals, with both answers the same: 1, 2, 3, 4; 5 where rows_len or words_len is not N, or samples_len is not 8 (b-a)
+ * (not 0, where a is above b); 6; 7. Refused, rows and words are as they were.
+ */
+struct selvedgeon_taken_back
+selvedgeon_edit_and_take_back(uint8_t kind, uint32_t n, uint8_t p_left, uint8_t p_right, uint8_t q_left, uint8_t q_right,
+                              uint8_t r_left, uint8_t r_right, uint32_t min, uint32_t value, uint8_t severity,
+                              uint32_t *trace, size_t trace_len, uint32_t *rows, size_t rows_len, uint64_t *words,
+                              size_t words_len, uint64_t a, uint64_t b, uint32_t *samples, size_t samples_len);
+
 /*
  * How many rows have each mark; other bits of a row are ignored.
  * Answers the refusal.

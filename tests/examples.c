@@ -6,67 +6,16 @@
 #include <stdio.h>
 #include <string.h>
 
-#include "checker.h"
-#include "frame.h"
-#include "print.h"
-#include "selvedgeon.h"
+#include "six.h"
 
-#define CYCLES 6
 #define MOST 65536
 #define EVERY_MARK 63
-
-/* the trace of case A, a sequence of four events on P [3:0] */
-static const uint32_t case_a[FRAME_WORDS * CYCLES] = {KNOWN(1, 8, 0, 0), KNOWN(1, 4, 0, 0), KNOWN(1, 10, 0, 0),
-                                                      KNOWN(1, 5, 0, 0), KNOWN(1, 2, 0, 0), KNOWN(1, 1, 0, 0)};
-
-/* start and test are 1 in each cycle */
-static const uint32_t ones[FRAME_WORDS * CYCLES] = {KNOWN(1, 1, 1, 1), KNOWN(1, 1, 1, 1), KNOWN(1, 1, 1, 1),
-                                                    KNOWN(1, 1, 1, 1), KNOWN(1, 1, 1, 1), KNOWN(1, 1, 1, 1)};
-
-struct record {
-    uint32_t rows[CYCLES];
-    uint64_t words[CYCLES];
-};
-
-static void print_record(const struct record *r)
-{
-    print_numbers("rows", r->rows, CYCLES);
-    printf("words");
-    for (int t = 0; t < CYCLES; t++)
-        printf(" %" PRIu64, r->words[t]);
-    printf("\n");
-}
-
-/* the recheck of cycles a to b-1, and what it answers */
-static void recheck(struct selvedgeon_config c, const uint32_t *trace, size_t cycles, uint32_t *rows, uint64_t *words,
-                    uint64_t a, uint64_t b)
-{
-    int32_t answer[ANSWER] = {0}; /* a refused recheck leaves them */
-    uint64_t answered = selvedgeon_recheck(NUMBERS(c), trace, FRAME_WORDS * cycles, rows, cycles, words, cycles, a, b,
-                                           answer, ANSWER);
-    uint32_t refusal = (uint32_t)(answered >> 32), cycle = (uint32_t)answered;
-    printf("refusal %" PRIu32, refusal);
-    if (refusal == SELVEDGEON_BAD_WORD || cycle != 0) /* a cycle with another refusal is wrong, and has to show */
-        printf(" cycle %" PRIu32, cycle);
-    printf(" end %" PRId32 " changes", answer[0]);
-    for (int i = 1; i < ANSWER; i++)
-        printf(" %" PRId32, answer[i]);
-    printf("\n");
-}
-
-/* the same of six cycles, and what it leaves */
-static void recheck_record(struct selvedgeon_config c, const uint32_t *trace, struct record *r, uint64_t a, uint64_t b)
-{
-    recheck(c, trace, CYCLES, r->rows, r->words, a, b);
-    print_record(r);
-}
 
 /* the full check of six cycles, then the recheck with P made `p` in cycle t: what each leaves */
 static void edit(struct selvedgeon_config c, const uint32_t *trace, uint64_t t, uint32_t p)
 {
     uint32_t edited[FRAME_WORDS * CYCLES];
-    struct record r = {0};
-    selvedgeon_check(NUMBERS(c), trace, FRAME_WORDS * CYCLES, r.rows, CYCLES, r.words, CYCLES);
+    struct record r = check(c, trace);
     print_record(&r);
     memcpy(edited, trace, sizeof edited);
     edited[at(t, P)] = p;
@@ -115,9 +64,8 @@ static const struct spoiled {
 static void spoiled_records(void)
 {
     struct selvedgeon_config c = checker(1, 4, 3), other = checker(3, 20, 0);
-    struct record r = {0};
+    struct record r = check(other, case_a);
     printf("case A, spoiled record: that of another checker\n"); /* a window of 20 cycles opens in cycle 3 */
-    selvedgeon_check(NUMBERS(other), case_a, FRAME_WORDS * CYCLES, r.rows, CYCLES, r.words, CYCLES);
     recheck_record(c, case_a, &r, 1, 2);
     for (size_t i = 0; i < sizeof spoiled / sizeof *spoiled; i++) {
         const struct spoiled *s = &spoiled[i];

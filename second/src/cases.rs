@@ -91,11 +91,11 @@ pub fn same_entries<T: PartialEq + Debug>(what: &str, host: &[T], rules: &[T]) -
 
 impl Case<'_> {
     /// Whether to put in a fault that is due so many times of 1,024.
-    fn fault(&mut self, of_1024: usize) -> bool {
+    pub fn fault(&mut self, of_1024: usize) -> bool {
         self.size == Size::Any && self.random.chance(if self.careless { 300 } else { of_1024 })
     }
 
-    fn config(&mut self) -> Config {
+    pub fn config(&mut self) -> Config {
         let config = if let Size::Longest(longest) = self.size {
             longest.config(&mut self.random)
         } else if self.fault(200) {
@@ -124,7 +124,7 @@ impl Case<'_> {
         config
     }
 
-    fn cycles(&mut self, n: u32) -> usize {
+    pub fn cycles(&mut self, n: u32) -> usize {
         if self.size != Size::Any {
             return if self.size == Size::TooLong { MOST_CYCLES + 1 } else { MOST_CYCLES };
         }
@@ -157,7 +157,7 @@ impl Case<'_> {
     }
 
     /// A trace of so many cycles; where a long window fits in, most often one made for it.
-    fn trace(&mut self, config: Config, cycles: usize) -> Vec<u32> {
+    pub fn trace(&mut self, config: Config, cycles: usize) -> Vec<u32> {
         let random = &mut self.random;
         let is_longer = config.has_window() && config.n >= LONG_WINDOW && cycles > config.n as usize;
         if let Size::Longest(longest) = self.size {
@@ -171,7 +171,7 @@ impl Case<'_> {
     }
 
     /// Most often the length that is due.
-    fn length(&mut self, due: usize) -> usize {
+    pub fn length(&mut self, due: usize) -> usize {
         if !self.fault(30) {
             return due;
         }
@@ -179,7 +179,7 @@ impl Case<'_> {
     }
 
     /// Makes some traces a little longer or shorter, so that they are no whole number of frames; also by half a frame.
-    fn cut_trace(&mut self, trace: &mut Vec<u32>) {
+    pub fn cut_trace(&mut self, trace: &mut Vec<u32>) {
         if self.size == Size::WordMore {
             trace.push(self.random.word());
         } else if self.fault(40) {
@@ -258,7 +258,7 @@ fn tally_window_step(tally: &mut Tally, config: Config, word: u64, frame: rules:
 }
 
 /// A short trace in full, a longer one by its length: its case can be run again alone.
-fn shown(trace: &[u32]) -> String {
+pub fn shown(trace: &[u32]) -> String {
     if trace.len() <= 160 {
         format!("trace {trace:x?}")
     } else {
@@ -380,7 +380,7 @@ fn range_around(random: &mut Random, stop: u64, last: u64) -> (u64, u64) {
 
 /// The cycles a to b−1 of an edit; sometimes a is above b, or b above N, also by more than 32 bits. That of a longest window
 /// is in cycle 0, so that the recheck has the whole window to go.
-fn edit_range(case: &mut Case, cycles: usize, stop: Option<usize>) -> (u64, u64) {
+pub fn edit_range(case: &mut Case, cycles: usize, stop: Option<usize>) -> (u64, u64) {
     if let Size::Longest(_) = case.size {
         return (0, 1);
     }
@@ -425,7 +425,18 @@ impl Lent {
     }
 }
 
-pub fn recheck(case: &mut Case) -> Outcome {
+/// An edit of cycles a to b−1, with the trace before it and after it, and the record that is kept.
+pub struct Drawn {
+    pub config: Config,
+    pub sort: Sort,
+    pub old: Vec<u32>,
+    pub new: Vec<u32>,
+    pub a: u64,
+    pub b: u64,
+    pub kept: Record,
+}
+
+pub fn draw_edit(case: &mut Case) -> Drawn {
     let config = case.config();
     let in_cycle_0 = matches!(case.size, Size::Longest(_));
     let sort = if in_cycle_0 { Sort::True } else { records::sort(&mut case.random) };
@@ -439,10 +450,18 @@ pub fn recheck(case: &mut Case) -> Outcome {
     };
     let stop = kept.words.iter().position(|word| *word == STOPPED);
     let (a, b) = edit_range(case, cycles, stop);
-    let mut trace = edited(case, &Edit { config, trace: &old, a, b });
+    let new = edited(case, &Edit { config, trace: &old, a, b });
+    if is_good {
+        kept = records::kept(&mut case.random, sort, kept, &Edit { config, trace: &old, a, b });
+    }
+    Drawn { config, sort, old, new, a, b, kept }
+}
+
+pub fn recheck(case: &mut Case) -> Outcome {
+    let Drawn { config, sort, old, new: mut trace, a, b, kept } = draw_edit(case);
+    let (is_good, cycles) = (config.refusal() == 0, kept.rows.len());
     if is_good {
         unknown::tally_edit(case.tally, config.kind, &old, &trace);
-        kept = records::kept(&mut case.random, sort, kept, &Edit { config, trace: &old, a, b });
     }
     case.cut_trace(&mut trace);
     let mut lent = Lent { rows: kept.rows, words: kept.words, answer: vec![0; case.length(ANSWERS)] };
@@ -457,7 +476,7 @@ pub fn recheck(case: &mut Case) -> Outcome {
 }
 
 /// The trace after the edit; as it was where the edit is refused.
-fn edited(case: &mut Case, before: &Edit) -> Vec<u32> {
+pub fn edited(case: &mut Case, before: &Edit) -> Vec<u32> {
     let Edit { config, trace: old, a, b } = *before;
     if let Size::Longest(_) = case.size {
         generate::edited_in_cycle_0(&mut case.random, config, old)

@@ -1,7 +1,7 @@
 //! The calls of include/selvedgeon.h. Every lent buffer lies between guard words; after each call the guards are checked, and
 //! that a buffer which the call may only read is as it was.
 
-use crate::rules::{Config, Edit, Frame, Refusal};
+use crate::rules::{Config, Edit, Frame, Lending, Refusal, MARKS};
 use std::fmt::Debug;
 use std::sync::atomic::{AtomicUsize, Ordering};
 
@@ -28,6 +28,26 @@ impl HostConfig {
     }
 }
 
+/// `struct selvedgeon_rechecked`
+#[repr(C)]
+#[derive(Clone, Copy, Debug, PartialEq)]
+pub struct Rechecked {
+    pub refusal: u32,
+    pub cycle: u64,
+    pub end: u64,
+    pub changes: [i32; MARKS.len()],
+}
+
+/// `struct selvedgeon_taken_back`
+#[repr(C)]
+pub struct TakenBack {
+    pub edit: Rechecked,
+    pub back: Rechecked,
+}
+
+// Each number of 64 bits lies on a multiple of 8.
+const _: () = assert!(size_of::<Rechecked>() == 48 && size_of::<TakenBack>() == 96);
+
 #[rustfmt::skip]
 extern "C" {
     fn selvedgeon_step(kind: u8, n: u32, p_left: u8, p_right: u8, q_left: u8, q_right: u8, r_left: u8, r_right: u8,
@@ -39,6 +59,9 @@ extern "C" {
     fn selvedgeon_recheck(kind: u8, n: u32, p_left: u8, p_right: u8, q_left: u8, q_right: u8, r_left: u8, r_right: u8,
         min: u32, value: u32, severity: u8, trace: *const u32, trace_len: usize, rows: *mut u32, rows_len: usize,
         words: *mut u64, words_len: usize, a: u64, b: u64, answer: *mut i32, answer_len: usize) -> u64;
+    fn selvedgeon_edit_and_take_back(kind: u8, n: u32, p_left: u8, p_right: u8, q_left: u8, q_right: u8, r_left: u8,
+        r_right: u8, min: u32, value: u32, severity: u8, trace: *mut u32, trace_len: usize, rows: *mut u32, rows_len: usize,
+        words: *mut u64, words_len: usize, a: u64, b: u64, samples: *mut u32, samples_len: usize) -> TakenBack;
     fn selvedgeon_totals(rows: *const u32, rows_len: usize, counts: *mut u32, counts_len: usize) -> u32;
     fn selvedgeon_failures(kind: u8, n: u32, p_left: u8, p_right: u8, q_left: u8, q_right: u8, r_left: u8, r_right: u8,
         min: u32, value: u32, severity: u8, trace: *const u32, trace_len: usize, list: *mut u32, list_len: usize) -> u64;
@@ -167,6 +190,22 @@ pub fn recheck(edit: &Edit, rows: &mut [u32], words: &mut [u64], answer: &mut [i
     w.give_back(words)?;
     x.give_back(answer)?;
     Ok(Refusal { number: (packed >> 32) as u32, cycle: packed as u32 })
+}
+
+/// All four buffers are given back as the call left them: it may write each of them.
+pub fn edit_and_take_back(c: Config, a: u64, b: u64, lending: &mut Lending) -> Result<TakenBack, String> {
+    let (mut t, mut r) = (Lent::new("trace", &lending.trace), Lent::new("rows", &lending.rows));
+    let (mut w, mut s) = (Lent::new("words", &lending.words), Lent::new("samples", &lending.samples));
+    #[rustfmt::skip]
+    let answer = unsafe {
+        selvedgeon_edit_and_take_back(c.kind, c.n, c.p.left, c.p.right, c.q.left, c.q.right, c.r.left, c.r.right, c.min,
+            c.value, c.severity, t.pointer(), t.len(), r.pointer(), r.len(), w.pointer(), w.len(), a, b, s.pointer(), s.len())
+    };
+    t.give_back(&mut lending.trace)?;
+    r.give_back(&mut lending.rows)?;
+    w.give_back(&mut lending.words)?;
+    s.give_back(&mut lending.samples)?;
+    Ok(answer)
 }
 
 pub fn totals(rows: &[u32], counts: &mut [u32]) -> Result<u32, String> {

@@ -1,9 +1,10 @@
-//! A second program for the rules of document 01 with §2 and §4 to §8 of document 02, and a comparison of the library with
-//! it on many inputs.
+//! A second program for the rules of document 01 with §2, §4 to §8 and §12 of document 02, and a comparison of the library
+//! with it on many inputs.
 //!
 //! SEED=n sets the seed; CASES=n or SECONDS=n how long to run; CASE=n runs one case alone.
 
 mod cases;
+mod either_order;
 mod fatal;
 mod generate;
 mod host;
@@ -11,12 +12,14 @@ mod records;
 mod rules;
 mod small;
 mod spoiled;
+mod taken_back;
 mod tally;
 mod unknown;
 mod whiteboard;
 mod windows;
 
 use cases::{Case, Longest, Size};
+use generate::Random;
 use std::process::ExitCode;
 use std::time::{Duration, Instant};
 use tally::Tally;
@@ -70,12 +73,35 @@ fn size(case: u64) -> Size {
     }
 }
 
-fn run_case(seed: u64, case: u64, tally: &mut Tally) -> Result<(), String> {
-    let mut random = generate::Random::new(seed, case);
+/// After the case of each recheck comes one of several rechecks, one after another (§12). There the greatest sizes are slower
+/// still, so only every second of these cases has them.
+fn beside(case: u64) -> Option<(CaseOf, Size)> {
+    match case % TURNS.len() as u64 {
+        2 => Some((taken_back::take_back, size(case))),
+        6 => Some((either_order::either_order, size(case))),
+        9 => Some((taken_back::take_back, Size::Any)),
+        14 => Some((either_order::either_order, Size::Any)),
+        _ => None,
+    }
+}
+
+fn run_one(run: CaseOf, mut random: Random, size: Size, tally: &mut Tally) -> Result<(), String> {
     let careless = random.chance(64);
-    let mut input = Case { random, size: size(case), careless, tally };
-    TURNS[(case % TURNS.len() as u64) as usize](&mut input)
-        .map_err(|difference| format!("seed {seed}, case {case}: {difference}"))
+    run(&mut Case { random, size, careless, tally })
+}
+
+/// What comes beside has a generator of its own, so that the case of the turn is what it would be without it.
+fn run_turn(seed: u64, case: u64, tally: &mut Tally) -> Result<(), String> {
+    let turn = TURNS[(case % TURNS.len() as u64) as usize];
+    run_one(turn, Random::new(seed, case), size(case), tally)?;
+    match beside(case) {
+        Some((run, size)) => run_one(run, Random::new(!seed, case), size, tally),
+        None => Ok(()),
+    }
+}
+
+fn run_case(seed: u64, case: u64, tally: &mut Tally) -> Result<(), String> {
+    run_turn(seed, case, tally).map_err(|difference| format!("seed {seed}, case {case}: {difference}"))
 }
 
 /// Answers how many cases were run.

@@ -1,4 +1,4 @@
-//! The rules of document 01, with §2 and §4 to §8 of document 02, as a search over starts. A full check looks, for every
+//! The rules of document 01, with §2, §4 to §8 and §12 of document 02, as a search over starts. A full check looks, for every
 //! cycle, for the starts that matter in it; a step from an open word builds a trace that leaves this word and asks the same
 //! search about the cycle behind it, and a recheck about all cycles behind it. All of this is about a checker that goes on; a
 //! fatal one has its rows and words up to the first cycle that fails. A sample is an Option, and None is unknown. The sentence
@@ -604,6 +604,7 @@ impl History {
 }
 
 /// Rows and open words: "entry t is after cycle t".
+#[derive(Clone, Debug, PartialEq)]
 pub struct Record {
     pub rows: Vec<u32>,
     pub words: Vec<u64>,
@@ -801,21 +802,25 @@ impl Edit<'_> {
         }
     }
 
-    /// The recheck of a true record: everything is checked again. "It ends at e, the least cycle from b to N such that e is N
-    /// or its word before e equals the kept one"; the changes are those "over all N rows".
+    /// The recheck of a true record: everything is checked again.
     pub fn recheck_true(&self, rows: &mut [u32], words: &mut [u64], answer: &mut [i32]) -> Refusal {
         let refusal = self.refusal(rows, words, answer);
-        if refusal != DONE {
-            return refusal;
+        if refusal == DONE {
+            self.recheck_to(&true_record(self.config, self.trace), rows, words, answer);
         }
-        let new = true_record(self.config, self.trace);
+        refusal
+    }
+
+    /// The same with the true record of the trace, for those that have it, and a recheck that is not refused. "It ends at e, the
+    /// least cycle from b to N such that e is N or its word before e equals the kept one"; the changes are those "over all N
+    /// rows".
+    pub fn recheck_to(&self, new: &Record, rows: &mut [u32], words: &mut [u64], answer: &mut [i32]) {
         let last = rows.len();
         let same = |e: &usize| *e == last || word_before(&new.words, *e) == word_before(words, *e);
         let e = (self.b as usize..=last).find(same).unwrap_or(last);
         write_answer(e, rows, &new.rows, answer);
         rows.copy_from_slice(&new.rows);
         words.copy_from_slice(&new.words);
-        DONE
     }
 
     /// The recheck of any record: "goes on from kept word a−1 (0 when a is 0), one step for each cycle of the lent trace from
@@ -880,6 +885,59 @@ fn write_answer(e: usize, old: &[u32], new: &[u32], answer: &mut [i32]) {
     for (i, mark) in MARKS.iter().enumerate() {
         answer[i + 1] = count(new, *mark) as i32 - count(old, *mark) as i32;
     }
+}
+
+/// What an edit that is taken back is lent: the trace before it, the record, and the new samples.
+#[derive(Clone)]
+pub struct Lending {
+    pub trace: Vec<u32>,
+    pub rows: Vec<u32>,
+    pub words: Vec<u64>,
+    pub samples: Vec<u32>,
+}
+
+impl Lending {
+    /// The header: "5 where rows_len or words_len is not N, or samples_len is not 8 (b-a) (not 0, where a is above b)". All
+    /// other refusals are those of a recheck, and 5 comes before 6 and 7.
+    fn refusal(&self, config: Config, a: u64, b: u64) -> Refusal {
+        let edit = Edit { config, trace: &self.trace, a, b };
+        let refusal = edit.refusal(&self.rows, &self.words, &[0; ANSWERS]);
+        if matches!(refusal.number, 0 | 6 | 7) && self.samples.len() as u128 != samples_due(a, b) {
+            return Refusal { number: 5, cycle: 0 };
+        }
+        refusal
+    }
+
+    /// "the samples, b-a frames of eight words, change places with those of cycles a to b-1 of the trace"
+    fn change_places(&mut self, a: u64, b: u64) {
+        let [first, end] = [a, b].map(|cycle| FRAME_WORDS * cycle as usize);
+        self.trace[first..end].swap_with_slice(&mut self.samples);
+    }
+
+    fn recheck(&mut self, config: Config, a: u64, b: u64) -> (Refusal, [i32; ANSWERS]) {
+        let (edit, mut answer) = (Edit { config, trace: &self.trace, a, b }, [0; ANSWERS]);
+        let refusal = edit.recheck_any(&mut self.rows, &mut self.words, &mut answer);
+        (refusal, answer)
+    }
+
+    /// "Four things are done in this order": the samples change places, rows and words are rechecked, the samples change places
+    /// again, rows and words are rechecked again. The answers are those of the two rechecks; refused, they are the same, and
+    /// "every other number is 0, but with 7 the cycle".
+    pub fn take_back(&mut self, config: Config, a: u64, b: u64) -> [(Refusal, [i32; ANSWERS]); 2] {
+        let refusal = self.refusal(config, a, b);
+        if refusal != DONE {
+            return [(refusal, [0; ANSWERS]); 2];
+        }
+        self.change_places(a, b);
+        let edit = self.recheck(config, a, b);
+        self.change_places(a, b);
+        [edit, self.recheck(config, a, b)]
+    }
+}
+
+/// How many words the samples of cycles a to b−1 are: more than 64 bits can say, for some a and b.
+pub fn samples_due(a: u64, b: u64) -> u128 {
+    FRAME_WORDS as u128 * u128::from(b.saturating_sub(a))
 }
 
 /// "A mark's count is the number of the record's rows with its bit set."

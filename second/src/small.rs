@@ -1,10 +1,11 @@
-//! Inputs so small that all of them are compared: configurations, words at their limits, single steps, short traces, and
-//! the places of impossible words in a record.
+//! Inputs so small that all of them are compared: configurations, words at their limits, single steps, short traces, the places
+//! of impossible words in a record, and edits of a few cycles that are taken back.
 
 use crate::cases::{compare_unaltered, same, same_entries};
 use crate::generate::{self, wire, UNUSED};
 use crate::host;
-use crate::rules::{self, Config, Edit, Frame, Range, Record, ANSWERS, FRAME_WORDS, LONGEST_WINDOW, STOPPED};
+use crate::rules::{self, Config, Edit, Frame, Lending, Range, Record, ANSWERS, FRAME_WORDS, LONGEST_WINDOW, STOPPED};
+use crate::taken_back::compare_call;
 use crate::unknown;
 
 type Outcome = Result<(), String>;
@@ -369,6 +370,37 @@ fn spoiled_records(config: Config) -> Result<u64, String> {
     Ok(compared)
 }
 
+/// The call that takes an edit back, from the true record of a trace.
+fn compare_taken_back(config: Config, trace: &[u32], a: u64, b: u64, samples: &[u32]) -> Outcome {
+    let Record { rows, words } = rules::true_record(config, trace);
+    let lending = Lending { trace: trace.to_vec(), rows, words, samples: samples.to_vec() };
+    compare_call(config, a, b, &lending)
+        .map(|_| ())
+        .map_err(|d| format!("take back, {config:?}, trace {trace:x?}, a {a}, b {b}, samples {samples:x?}: {d}"))
+}
+
+/// Edits of a trace of three cycles that are taken back, with every a and b up to 4 and every number of samples up to that of
+/// four cycles and a word; and every edit of one frame in every trace of fewer cycles.
+fn taken_back(config: Config) -> Result<u64, String> {
+    let frames = trace_frames(config, Bits::Known);
+    let [first, middle, last] = [1, frames.len() / 2, frames.len() - 1].map(|i| frames[i]);
+    let (trace, samples) = ([first, middle, last].concat(), [last, first, middle, first, last].concat());
+    let mut compared = 0;
+    for (a, b) in (0..=4).flat_map(|a| (0..=4).map(move |b| (a, b))) {
+        for len in 0..=4 * FRAME_WORDS + 1 {
+            compare_taken_back(config, &trace, a, b, &samples[..len])?;
+            compared += 1;
+        }
+    }
+    for old in all_traces(config, Bits::Known, 60) {
+        for (t, frame) in (0..old.len() / FRAME_WORDS).flat_map(|t| frames.iter().map(move |frame| (t as u64, frame))) {
+            compare_taken_back(config, &old, t, t + 1, frame)?;
+            compared += 1;
+        }
+    }
+    Ok(compared)
+}
+
 /// No impossible word, and one in every place, of records of all these lengths: the words may be tested in blocks of any
 /// size. And two in every two places of a record of 40 cycles.
 fn spoiled_places(config: Config) -> Result<u64, String> {
@@ -428,9 +460,9 @@ fn compare_trace(config: Config, trace: &[u32]) -> Outcome {
 fn compare_all() -> Result<String, String> {
     let configs = configs()? + mins_and_values()? + severities()?;
     let words = words()?;
-    let mut counts = [0; 4];
+    let mut counts = [0; 5];
     for config in small_configs().into_iter().chain(small_windows()).flat_map(both) {
-        for (count, compare) in counts.iter_mut().zip([steps, traces, rechecks, spoiled_records]) {
+        for (count, compare) in counts.iter_mut().zip([steps, traces, rechecks, spoiled_records, taken_back]) {
             *count += compare(config)?;
         }
     }
@@ -440,10 +472,10 @@ fn compare_all() -> Result<String, String> {
     for config in longest_windows().into_iter().chain(widest()).flat_map(both) {
         counts[3] += spoiled_places(config)?;
     }
-    let [steps, traces, rechecks, spoiled] = counts;
+    let [steps, traces, rechecks, spoiled, taken_back] = counts;
     Ok(format!(
         "{configs} configurations, {words} words, {steps} steps, {traces} traces, {rechecks} rechecks, \
-         {spoiled} spoiled records"
+         {spoiled} spoiled records, {taken_back} edits taken back"
     ))
 }
 

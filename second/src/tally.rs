@@ -1,6 +1,6 @@
 //! What the run has covered: how many cases each call, kind, mark, refusal and situation had. A run that missed one fails.
 
-use crate::{fatal, spoiled, unknown, windows};
+use crate::{either_order, fatal, spoiled, taken_back, unknown, windows};
 use std::collections::BTreeMap;
 use std::ops::RangeInclusive;
 
@@ -9,6 +9,7 @@ pub enum Call {
     Step,
     Check,
     Recheck,
+    TakeBack,
     Totals,
     Failures,
     OpenCount,
@@ -18,7 +19,7 @@ pub enum Call {
 
 use Call::*;
 
-pub const CALLS: [Call; 8] = [Step, Check, Recheck, Totals, Failures, OpenCount, FirstFailure, Bench];
+pub const CALLS: [Call; 9] = [Step, Check, Recheck, TakeBack, Totals, Failures, OpenCount, FirstFailure, Bench];
 
 impl Call {
     /// The answers 0 to 9 that the header allows a call.
@@ -26,7 +27,7 @@ impl Call {
         match self {
             Step => &[0, 1, 2, 3, 5, 7],
             Check => &[0, 1, 2, 3, 4, 5],
-            Recheck => &[0, 1, 2, 3, 4, 5, 6, 7],
+            Recheck | TakeBack => &[0, 1, 2, 3, 4, 5, 6, 7],
             Totals => &[0, 5],
             Failures => &[0, 1, 2, 3, 4, 8],
             OpenCount => &[0, 1, 2, 3, 7],
@@ -63,7 +64,7 @@ const KINDS: RangeInclusive<u8> = 0..=8;
 pub const NO_KIND: u8 = 9;
 
 /// The situations that every run has to meet, besides calls, kinds, marks and refusals.
-const SITUATIONS: [&str; 91] = [
+const SITUATIONS: [&str; 112] = [
     "check of 0 cycles",
     "check of 1 cycle",
     "check of 65,536 cycles",
@@ -91,6 +92,27 @@ const SITUATIONS: [&str; 91] = [
     "recheck refused 1, a kept word that no checker leaves",
     "recheck refused 2, a kept word that no checker leaves",
     "recheck refused 3, a kept word that no checker leaves",
+    "taken back, 65,536 cycles",
+    "samples refused, one word more",
+    "samples refused, one word less",
+    "samples refused, one frame more",
+    "samples refused, one frame less",
+    "samples refused, none",
+    "samples refused, some where a = b",
+    "samples refused, a above b",
+    "samples refused, as many as a is above b",
+    "samples refused, b above N",
+    "samples refused, the lower 64 bits of 8 (b-a), a above b",
+    "samples refused, the lower 64 bits of 8 (b-a), b above N",
+    "samples refused, a kept word impossible too",
+    "take back refused 1, samples wrong too",
+    "take back refused 2, samples wrong too",
+    "take back refused 3, samples wrong too",
+    "take back refused 4, samples wrong too",
+    "take back refused 4, 65,537 cycles",
+    "take back refused 6, a above b, no samples",
+    "take back refused 6, b above N, samples of b-a frames",
+    "take back refused 6, a = b = 2^64-1",
     "failures, list exactly long enough",
     "failures, list one word short",
     "failures, list longer",
@@ -224,8 +246,8 @@ impl Tally {
         *self.situations.entry(name).or_default() += u64::from(met);
     }
 
-    /// A situation of a window, of a fatal checker, of a kept record or of unknown bits; each is counted for every kind that
-    /// has it.
+    /// A situation of a window, of a fatal checker, of a kept record, of unknown bits or of edits one after another; each is
+    /// counted for every kind that has it.
     pub fn of_kind(&mut self, kind: u8, name: &'static str, met: bool) {
         *self.of_kinds.entry((kind, name)).or_default() += u64::from(met);
     }
@@ -292,7 +314,8 @@ impl Tally {
         let not_met = SITUATIONS.iter().filter(|name| self.situations.get(*name).copied().unwrap_or(0) == 0);
         missed.extend(not_met.map(|name| name.to_string()));
         let of_windows = windows::all_situations().chain(fatal::all_situations());
-        let of_kinds = of_windows.chain(spoiled::all_situations()).chain(unknown::all_situations());
+        let of_edits = taken_back::all_situations().chain(either_order::all_situations());
+        let of_kinds = of_windows.chain(spoiled::all_situations()).chain(unknown::all_situations()).chain(of_edits);
         for (kind, name, least) in of_kinds {
             if self.of_kinds.get(&(kind, name)).copied().unwrap_or(0) < least {
                 missed.push(format!("kind {kind}: {name}"));

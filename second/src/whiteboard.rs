@@ -2,8 +2,10 @@
 //! H, which §2 of document 02 changes: "Case H becomes 4 0 20 0 20 0, same words." A second table has cases of kinds 7 and 8,
 //! worked by hand from the sentences of §4, a third has the longest windows, from those of §5, a fourth fatal checkers,
 //! from those of §7, a fifth records of other checkers, from those of §6, and a sixth, in a file of its own, unknown bits, from
-//! those of §8. The library and the rules are both held against them.
+//! those of §8; a seventh, in a file of its own too, has edits that are taken back and two edits in either order, from those of
+//! §12. The library and the rules are both held against them.
 
+mod taken_back;
 mod unknown_bits;
 
 use crate::generate::{wire, UNUSED};
@@ -1065,6 +1067,7 @@ pub fn compare() -> Result<String, String> {
     window_words().map_err(|d| format!("words of kinds 7 and 8: {d}"))?;
     let (document, windows, longest, fatal) = (document.len(), windows.len(), longest()?, fatal_checkers()?);
     let (spoiled, unknown) = (spoiled_records()?, unknown_bits::compare()?);
+    let [taken_back, either_order, refused] = taken_back::compare()?;
     Ok(format!(
         "whiteboard table: {document} cases and the examples under it, all as in the document\n\
          kinds 7 and 8: {windows} cases, a recheck, limits and words, all as worked by hand\n\
@@ -1073,6 +1076,8 @@ pub fn compare() -> Result<String, String> {
          records of other checkers: {spoiled} refused, three rechecks, earlier refusals and a longest record, all as worked \
          by hand\n\
          unknown bits: {unknown} cases with their lists, rechecks, totals, first failures, lengths and steps, all as worked \
-         by hand"
+         by hand\n\
+         edits taken back: {taken_back} cases, {either_order} of two edits in either order, three false records, and {refused} \
+         refused, all as worked by hand"
     ))
 }

@@ -1,6 +1,6 @@
 //! Whether the proved library answers every call that is timed as ordinary Rust does.
 use crate::engine::{Answer, Engine, Plain, Record};
-use crate::inputs::{cut, false_record, Call, Input, BENCH, CYCLES, LIST};
+use crate::inputs::{cut, false_record, samples, Call, Input, BENCH, CYCLES, LIST};
 use crate::plain::{self, Config, Frame, FAILURE, FRAME, ILLEGAL, MOST_PIPE, OPENED};
 use crate::proved::Library;
 use std::ops::Range;
@@ -16,6 +16,7 @@ pub fn compare(library: &Library, input: &Input) -> Result<(), String> {
             Call::Recheck => compare_recheck(library, config, own, false_record(config, trace, k), 0..1),
             Call::OneCycle => compare_check(library, config, own)
                 .and_then(|record| compare_recheck(library, config, own, record, CYCLES - 1..CYCLES)),
+            Call::TakenBack { cycles } => compare_taken_back(library, config, own, cycles),
             Call::List | Call::OwnList { .. } => compare_list(library, config, own),
             _ => compare_check(library, config, own).map(|_| ()),
         };
@@ -81,6 +82,30 @@ fn compare_recheck(
     }
     if answer != Ok(expected) {
         return Err(format!("recheck: (stop, changes) is {answer:?} and {expected:?}"));
+    }
+    Ok(())
+}
+
+/// An edit that is made and taken back has to answer what two rechecks do, and to leave the record of the full check.
+fn compare_taken_back(library: &Library, config: &Config, trace: &[u32], cycles: usize) -> Result<(), String> {
+    let full = compare_check(library, config, trace)?;
+    let (edit, mut edited, mut given) = (CYCLES - cycles..CYCLES, trace.to_vec(), samples(trace, cycles));
+    let [mut record, mut rechecked] = [Record::new(CYCLES), Record::new(CYCLES)];
+    record.copy_from(&full);
+    rechecked.copy_from(&full);
+    let answer = library.edit_and_take_back(config, &mut edited, &mut record, edit.clone(), &mut given);
+    equal([Ok(()); 2], [&record, &full]).map_err(|difference| format!("taken back, {difference}"))?;
+    if edited != trace || given != samples(trace, cycles) {
+        return Err("taken back: the trace or the samples are not as they were".into());
+    }
+    for part in [&answer.edit, &answer.back] {
+        edited[FRAME * edit.start..].swap_with_slice(&mut given);
+        let due = library.recheck(config, &edited, &mut rechecked, edit.clone());
+        let mut found = [part.end as i32; 7];
+        found[1..].copy_from_slice(&part.changes);
+        if part.refusal != 0 || part.cycle != 0 || due != Ok(found) {
+            return Err(format!("taken back: refusal {}, {found:?}, and a recheck gives {due:?}", part.refusal));
+        }
     }
     Ok(())
 }

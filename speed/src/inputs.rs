@@ -38,6 +38,7 @@ const MIDDLE: usize = CYCLES / 2;
 const BESIDE_RUST: [&str; 2] = ["proved ns/step", "plain ns/step"];
 const RECHECKS: [&str; 2] = ["recheck ns", "full check ns"];
 const ONE_CYCLE: [&str; 2] = ["recheck ns", "read words ns"];
+const TAKEN_BACK: [&str; 2] = ["there and back", "two rechecks"];
 const LISTS: [&str; 2] = ["list pass ns", "full check ns"];
 
 /// The inputs that are held against the same yardstick, and the names of the columns of time and yardstick.
@@ -65,10 +66,27 @@ pub enum Call {
     /// A recheck of the last cycle alone for each checker, on the true record: nearly all that it does is the test of the
     /// kept words.
     OneCycle,
+    /// For each checker an edit of the last so many cycles made and taken back, on the true record, beside two rechecks and the
+    /// exchanges of the samples.
+    TakenBack { cycles: usize },
     /// The failure list for each checker, on the cycles of its full check.
     List,
     /// The failure list for each checker, on a trace of its own where one of so many cycles fails, or none does.
     OwnList { one_in: Option<u32> },
+}
+
+impl Call {
+    /// Whether a library has to have the call of request §12.
+    pub fn takes_back(self) -> bool {
+        matches!(self, Call::TakenBack { .. })
+    }
+}
+
+/// What an edit of the last so many cycles of a trace puts there: the samples of the first ones, each a cycle earlier.
+pub fn samples(trace: &[u32], cycles: usize) -> Vec<u32> {
+    let mut samples = trace[..FRAME * cycles].to_vec();
+    samples.rotate_left(FRAME);
+    samples
 }
 
 impl Input {
@@ -105,12 +123,15 @@ pub fn tables() -> Vec<Table> {
     };
     let mut lists = all("list, none, ", Call::OwnList { one_in: None });
     lists.extend(all("list, 1 in 16, ", Call::OwnList { one_in: Some(16) }));
+    let mut taken_back = all("edit of a cycle and back, ", Call::TakenBack { cycles: 1 });
+    taken_back.extend(all("edit of all cycles and back, ", Call::TakenBack { cycles: CYCLES }));
     let mut tables = vec![
         Table { columns: BESIDE_RUST, inputs: check_inputs("", |_| trace.clone()) },
         Table { columns: BESIDE_RUST, inputs: check_inputs("unknown, ", |checkers| unknown_trace(&trace, checkers).into()) },
         Table { columns: BESIDE_RUST, inputs: bus_inputs() },
         Table { columns: RECHECKS, inputs: all("recheck, ", Call::Recheck) },
         Table { columns: ONE_CYCLE, inputs: all("recheck of a cycle, ", Call::OneCycle) },
+        Table { columns: TAKEN_BACK, inputs: taken_back },
         Table { columns: LISTS, inputs: lists },
     ];
     tables.extend(fatal_tables(&trace));

@@ -56,7 +56,7 @@ fn run() -> Result<(), String> {
     for table in &tables {
         let takers = takers(&libraries, table);
         if takers.len() < libraries.len() {
-            println!("\nwith unknown bits, so only for libraries with eight words a frame: {}", paths(&takers));
+            println!("\nonly for libraries that take these calls and frames of eight words: {}", paths(&takers));
         }
         if !takers.is_empty() {
             print_table(table, &takers, plan);
@@ -65,10 +65,12 @@ fn run() -> Result<(), String> {
     Ok(())
 }
 
-/// The libraries that take the traces of all the table's inputs.
+/// The libraries that take the traces of all the table's inputs, and have the call.
 fn takers<'a>(libraries: &'a [Library], table: &Table) -> Vec<&'a Library> {
-    let takes = |library: &&Library| table.inputs.iter().all(|input| library.form().takes(&input.trace));
-    libraries.iter().filter(takes).collect()
+    let takes = |library: &Library, input: &Input| {
+        library.form().takes(&input.trace) && (library.takes_back() || !input.call.takes_back())
+    };
+    libraries.iter().filter(|library| table.inputs.iter().all(|input| takes(library, input))).collect()
 }
 
 fn paths(libraries: &[&Library]) -> String {

@@ -19,9 +19,29 @@ type Recheck = unsafe extern "C" fn(
     u8, u32, u8, u8, u8, u8, u8, u8, u32, u32, u8, *const u32, usize, *mut u32, usize, *mut u64, usize,
     u64, u64, *mut i32, usize,
 ) -> u64;
+#[rustfmt::skip]
+type TakeBack = unsafe extern "C" fn(
+    u8, u32, u8, u8, u8, u8, u8, u8, u32, u32, u8, *mut u32, usize, *mut u32, usize, *mut u64, usize,
+    u64, u64, *mut u32, usize,
+) -> TakenBack;
 type Failures =
     unsafe extern "C" fn(u8, u32, u8, u8, u8, u8, u8, u8, u32, u32, u8, *const u32, usize, *mut u32, usize) -> u64;
 type Bench = unsafe extern "C" fn(*const Config, usize, *const u32, usize, *mut u64, usize, *mut u32, usize) -> u32;
+
+/// The header's `struct selvedgeon_rechecked` and `struct selvedgeon_taken_back`.
+#[repr(C)]
+pub struct Rechecked {
+    pub refusal: u32,
+    pub cycle: u64,
+    pub end: u64,
+    pub changes: [i32; 6],
+}
+
+#[repr(C)]
+pub struct TakenBack {
+    pub edit: Rechecked,
+    pub back: Rechecked,
+}
 
 /// `Config` goes to the bench as it is, so it has to have the size of the header's `struct selvedgeon_config`.
 const _: () = assert!(size_of::<Config>() == 28);
@@ -42,6 +62,8 @@ pub struct Library {
     form: Form,
     check: Check,
     recheck: Recheck,
+    /// A library from before request §12 has none.
+    take_back: Option<TakeBack>,
     failures: Failures,
     bench: Bench,
 }
@@ -60,6 +82,7 @@ impl Library {
                 form: Form::TODAY,
                 check: function(handle, c"selvedgeon_check")?,
                 recheck: function(handle, c"selvedgeon_recheck")?,
+                take_back: function(handle, c"selvedgeon_edit_and_take_back").ok(),
                 failures: function(handle, c"selvedgeon_failures")?,
                 bench: function(handle, c"selvedgeon_bench")?,
             };
@@ -91,6 +114,33 @@ impl Library {
             )
         };
         done((answered >> 32) as u32).map(|()| answer)
+    }
+
+    pub fn takes_back(&self) -> bool {
+        self.take_back.is_some()
+    }
+
+    /// An edit of those cycles made and taken back, which a library has to have: what the two rechecks answer.
+    pub fn edit_and_take_back(
+        &self,
+        config: &Config,
+        trace: &mut [u32],
+        record: &mut Record,
+        edit: Range<usize>,
+        samples: &mut [u32],
+    ) -> TakenBack {
+        let &Config { kind, n, p, q, r, min, value, severity } = config;
+        let Record { rows, words } = record;
+        let take_back = self.take_back.expect("a library that takes edits back");
+        #[rustfmt::skip]
+        let answer = unsafe {
+            take_back(
+                kind, n, p.left, p.right, q.left, q.right, r.left, r.right, min, value, severity,
+                trace.as_mut_ptr(), trace.len(), rows.as_mut_ptr(), rows.len(), words.as_mut_ptr(), words.len(),
+                edit.start as u64, edit.end as u64, samples.as_mut_ptr(), samples.len(),
+            )
+        };
+        answer
     }
 
     /// The failure list: the number of its entries, of three words each.

@@ -1,8 +1,8 @@
 //! How long the calls take: the best of many rounds, in which the calls that are held against each other take turns.
 use crate::engine::{Engine, Plain, Record};
 use crate::form::Form;
-use crate::inputs::{cut, false_record, true_record, Call, Input, BENCH, CYCLES, LIST};
-use crate::plain::{fails, Config};
+use crate::inputs::{cut, false_record, samples, true_record, Call, Input, BENCH, CYCLES, LIST};
+use crate::plain::{fails, Config, FRAME};
 use crate::proved::Library;
 use std::hint::black_box;
 use std::ops::{BitOr, Range};
@@ -34,6 +34,15 @@ pub struct Times {
 struct Memory {
     record: Record,
     list: Vec<u32>,
+    /// A trace and samples that are exchanged with it.
+    trace: Vec<u32>,
+    samples: Vec<u32>,
+}
+
+impl Memory {
+    fn new(entries: usize, list: usize) -> Self {
+        Memory { record: Record::new(entries), list: vec![0; list], trace: Vec::new(), samples: Vec::new() }
+    }
 }
 
 /// A call that is timed. It was done when it was compared, so here it is done as well.
@@ -42,7 +51,9 @@ type Timed<'a> = Box<dyn Fn(&mut Memory) + 'a>;
 pub fn times(input: &Input, libraries: &[&Library], plan: Plan) -> Times {
     match input.call {
         Call::FullCheck | Call::Bench => all_at_once(input, libraries, plan),
-        Call::Recheck | Call::OneCycle | Call::List | Call::OwnList { .. } => one_by_one(input, libraries, plan),
+        Call::Recheck | Call::OneCycle | Call::TakenBack { .. } | Call::List | Call::OwnList { .. } => {
+            one_by_one(input, libraries, plan)
+        }
     }
 }
 
@@ -55,7 +66,7 @@ fn all_at_once(input: &Input, libraries: &[&Library], plan: Plan) -> Times {
     };
     let mut calls: Vec<Timed> = libraries.iter().map(|library| call(*library, checkers, trace)).collect();
     calls.push(call(&Plain, checkers, trace));
-    let mut memory = Memory { record: Record::new(entries), list: Vec::new() };
+    let mut memory = Memory::new(entries, 0);
     let best = best_times(&calls, |memory| memory.record.words.fill(0), &mut memory, plan);
     per_step(&best, CYCLES * checkers.len())
 }
@@ -65,13 +76,16 @@ fn all_at_once(input: &Input, libraries: &[&Library], plan: Plan) -> Times {
 fn one_by_one(input: &Input, libraries: &[&Library], plan: Plan) -> Times {
     let checkers = input.checkers.len();
     let plan = Plan { least_time: plan.least_time / checkers as u32, ..plan };
-    let mut memory = Memory { record: Record::new(CYCLES), list: vec![0; LIST] };
+    let mut memory = Memory::new(CYCLES, LIST);
     let mut sums = vec![Duration::ZERO; libraries.len() + 1];
     let mut failing = 0;
     for (k, config) in input.checkers.iter().enumerate() {
         let best = match input.call {
             Call::Recheck => recheck_times(config, &input.trace, k, libraries, &mut memory, plan),
             Call::OneCycle => one_cycle_times(config, cut(&input.trace, k, CYCLES), libraries, &mut memory, plan),
+            Call::TakenBack { cycles } => {
+                taken_back_times(config, cut(&input.trace, k, CYCLES), cycles, libraries, &mut memory, plan)
+            }
             _ => list_times(config, &input.frames(k), libraries, &mut memory, plan),
         };
         sums.iter_mut().zip(best).for_each(|(sum, best)| *sum += best);
@@ -118,6 +132,24 @@ fn one_cycle_times(
     best_times(&calls, |_| (), memory, plan)
 }
 
+/// Each call leaves trace, samples and record as they were, so nothing has to be prepared.
+fn taken_back_times(
+    config: &Config,
+    trace: &[u32],
+    cycles: usize,
+    libraries: &[&Library],
+    memory: &mut Memory,
+    plan: Plan,
+) -> Vec<Duration> {
+    let edit = CYCLES - cycles..CYCLES;
+    let mut calls: Vec<Timed> = libraries.iter().map(|library| take_back(library, config, edit.clone())).collect();
+    calls.push(two_rechecks(libraries[0], config, edit));
+    memory.record.copy_from(&true_record(config, trace));
+    memory.trace = trace.to_vec();
+    memory.samples = samples(trace, cycles);
+    best_times(&calls, |_| (), memory, plan)
+}
+
 /// All the words, each once, and nothing but the loads and one operation a word.
 #[inline(never)]
 fn read<Word: Copy + Default + BitOr<Output = Word>>(words: &[Word]) -> Word {
@@ -132,7 +164,7 @@ pub fn read_times(forms: [Form; 2], plan: Plan) -> [f64; 2] {
             black_box(read(black_box(&trace[..])));
         })
     });
-    let mut memory = Memory { record: Record::new(CYCLES), list: Vec::new() };
+    let mut memory = Memory::new(CYCLES, 0);
     // As before a full check.
     let best = best_times(&calls, |memory| memory.record.words.fill(0), &mut memory, plan);
     [best[0], best[1]].map(|time| time.as_nanos() as f64 / CYCLES as f64)
@@ -207,6 +239,25 @@ fn recheck<'a>(library: &'a Library, config: &'a Config, trace: &'a [u32], edit:
     Box::new(move |memory| {
         let answer = library.recheck(black_box(config), black_box(&own), &mut memory.record, black_box(edit.clone()));
         black_box((answer, memory)).0.expect("done when compared");
+    })
+}
+
+fn take_back<'a>(library: &'a Library, config: &'a Config, edit: Range<usize>) -> Timed<'a> {
+    Box::new(move |memory| {
+        let Memory { record, trace, samples, .. } = memory;
+        let answer = library.edit_and_take_back(black_box(config), trace, record, black_box(edit.clone()), samples);
+        assert_eq!(black_box((answer, memory)).0.back.refusal, 0, "done when compared");
+    })
+}
+
+fn two_rechecks<'a>(library: &'a Library, config: &'a Config, edit: Range<usize>) -> Timed<'a> {
+    Box::new(move |memory| {
+        let Memory { record, trace, samples, .. } = memory;
+        for _ in 0..2 {
+            trace[FRAME * edit.start..FRAME * edit.end].swap_with_slice(samples);
+            let answer = library.recheck(black_box(config), black_box(trace), record, black_box(edit.clone()));
+            black_box(answer).expect("done when compared");
+        }
     })
 }
 

@@ -21,7 +21,7 @@ use Rattle.edited.specs.Edits.{Stored, NotDone, Replaced}
 abbrev zeros : List ℤ
 zeros = replicate marks (pos 0)
 
-not-done : {n r : ℕ} → r ≡ n → NotDone n r 0 0 zeros
+pub not-done : {n r : ℕ} → r ≡ n → NotDone n r 0 0 zeros
 not-done e = record { refusal-is = e; cycle-is = refl; end-is = refl; changes-are = λ i h. getD-replicate marks i (pos 0) (pos 0) h }
 
 module _ {c : Config} {old rows₀ words₀ rows words : List ℕ} {r : ℕ} (check : CheckAnswer c old rows₀ words₀ rows words r) where

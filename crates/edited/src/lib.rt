@@ -1,4 +1,8 @@
-// A caller of full check and recheck: checks a trace, changes one cycle of it and rechecks. Its proof uses the contracts of the calls alone.
+// Callers of full check and recheck. Their proofs use the contracts of the calls alone. Here: one that checks a trace, changes one cycle of it and rechecks.
+mod back;
+
+pub use back::BothResults;
+pub use back::edit_and_take_back;
 use recheck::RecheckResult;
 use recheck::recheck;
 use record::full_check;

@@ -15,6 +15,7 @@ ghost use Rattle.recheck.specs.Rechecks.{RecheckAnswer};
 
 // The refusal number or 0, the lowest cycle whose kept word is impossible where that is why it is refused (7), else 0; the cycle where the recheck ended, and by
 // how much each mark's count changed; refused: both 0.
+#[repr(C)]
 pub struct RecheckResult {
     pub refusal: u32,
     pub cycle: usize,

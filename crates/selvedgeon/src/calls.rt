@@ -1,4 +1,6 @@
 // The calls on a whole trace, for the C host.
+use edited::BothResults;
+use edited::edit_and_take_back;
 use lent_changes::recheck_into;
 use lent_totals::totals_into;
 use numbered::config_of;
@@ -9,6 +11,7 @@ ghost use Rattle.record.specs.Records.{CheckAnswer};
 ghost use Rattle.failures.specs.Answers.{ListAnswer};
 ghost use Rattle.lent_totals.specs.Answers.{HostTotals};
 ghost use Rattle.lent_changes.specs.Answers.{HostRecheck};
+ghost use Rattle.edited.specs.Back.{BackAnswer};
 ghost use Rattle.numbered.specs.Numbered.{configOf};
 
 // The full check: fills N rows and N open words. Answers the refusal number or 0; refused: both are as they were. Refusals 1 to 5.
@@ -86,6 +89,47 @@ pub extern "C" fn selvedgeon_recheck(
         severity,
     );
     recheck_into(config, trace, rows, words, a, b, answer)
+}
+
+// An edit of cycles a to b-1 made and taken back, with a recheck after each: what it would change, with nothing changed. Answers both rechecks. Refusals 1 to 7, 5
+// also where the samples are not those of b-a cycles; refused: all is as it was. The trace and the samples are in the end as they were, and so are the rows and
+// words of the trace's true record.
+#[no_mangle]
+pub extern "C" fn selvedgeon_edit_and_take_back(
+    kind: u8,
+    n: u32,
+    p_left: u8,
+    p_right: u8,
+    q_left: u8,
+    q_right: u8,
+    r_left: u8,
+    r_right: u8,
+    min: u32,
+    value: u32,
+    severity: u8,
+    trace: &mut [u32],
+    rows: &mut [u32],
+    words: &mut [u64],
+    a: u64,
+    b: u64,
+    samples: &mut [u32],
+) -> BothResults
+    ensures { λ answer. ⌜ BackAnswer (configOf kind n «p_left» «p_right» «q_left» «q_right» «r_left» «r_right» min value severity) a b (now (samples .entry)) (now (samples .exit)) (record { trace = now (trace .entry); rows = now (rows .entry); words = now (words .entry) }) (record { trace = now (trace .exit); rows = now (rows .exit); words = now (words .exit) }) (answer .edit) (answer .back) ⌝ }
+{
+    let config = config_of(
+        kind,
+        n,
+        p_left,
+        p_right,
+        q_left,
+        q_right,
+        r_left,
+        r_right,
+        min,
+        value,
+        severity,
+    );
+    edit_and_take_back(config, trace, rows, words, a as usize, b as usize, samples)
 }
 
 // How many rows have each mark, in as many lent numbers as there are marks. Answers the refusal number or 0: 5 for more than 65,536 rows, or where another

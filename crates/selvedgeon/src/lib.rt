@@ -5,6 +5,7 @@ mod step;
 mod table;
 
 pub use calls::selvedgeon_check;
+pub use calls::selvedgeon_edit_and_take_back;
 pub use calls::selvedgeon_failures;
 pub use calls::selvedgeon_recheck;
 pub use calls::selvedgeon_totals;

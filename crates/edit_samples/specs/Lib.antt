@@ -1,0 +1,2 @@
+-- What the contracts of an edit's samples cite.
+pub mod Samples

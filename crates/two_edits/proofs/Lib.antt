@@ -1,0 +1,2 @@
+-- That both claims hold.
+pub mod Claims

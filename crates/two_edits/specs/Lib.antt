@@ -1,0 +1,2 @@
+-- What two edits leave, as claims.
+pub mod TwoEdits
