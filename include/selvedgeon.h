@@ -156,6 +156,9 @@ uint32_t selvedgeon_check(uint8_t kind, uint32_t n, uint8_t p_left, uint8_t p_ri
  * Refusals: 1, 2, 3, 4; 5 where rows_len or words_len is not N or answer_len is not 7; 6; 7 where any of the kept words is
  * not possible, wherever a and b are. A record that selvedgeon_check or selvedgeon_recheck left for the same configuration
  * is never refused with 7.
+ * An edit can be taken back: from the trace's own record, the recheck of an edit and then that of the same cycles with their
+ * old samples leave the rows and words that were there, and the changes of the two add to 0 for each mark. Two edits of
+ * cycles that do not meet leave the same record in either order, and the same sums of changes; answer[0] may differ.
  */
 uint64_t selvedgeon_recheck(uint8_t kind, uint32_t n, uint8_t p_left, uint8_t p_right, uint8_t q_left, uint8_t q_right,
                             uint8_t r_left, uint8_t r_right, uint32_t min, uint32_t value, uint8_t severity,
