@@ -189,9 +189,9 @@ struct selvedgeon_taken_back {
  * take them back, mark by mark.
  * Writes: trace and samples, which are in the end as they were, whatever was lent; rows and words, which from such a record
  * are in the end as they were too, and from another one are what the two rechecks left.
- * Refusals, with both answers the same: 1, 2, 3, 4; 5 where rows_len or words_len is not N, or samples_len is not 8 (b-a),
- * which is meant exactly also where it is above 2^64 (not 0, where a is above b); 6; 7. Refused, rows and words are as they
- * were.
+ * Refusals: 1, 2, 3, 4; 5 where rows_len or words_len is not N, or samples_len is not 8 (b-a), which is meant exactly also
+ * where it is above 2^64 (not 0, where a is above b); 6; and 7, by the rechecks. Where edit.refusal is not 0, back has the
+ * same refusal and cycle, and rows and words are as they were.
  */
 struct selvedgeon_taken_back
 selvedgeon_edit_and_take_back(uint8_t kind, uint32_t n, uint8_t p_left, uint8_t p_right, uint8_t q_left, uint8_t q_right,

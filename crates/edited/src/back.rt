@@ -20,8 +20,8 @@ pub struct BothResults {
 }
 
 // Puts the samples in cycles a to b-1 and rechecks, then puts the old ones back and rechecks again: what the edit would change, with nothing changed. From the
-// trace's true record all that is lent is as it was; from another record the rows and words are what the two rechecks leave. Refusals 1 to 7, 5 also where the
-// samples are not those of b-a cycles; refused: all is as it was, and both answers are the refusal's.
+// trace's true record all that is lent is as it was; from another record the rows and words are what the two rechecks leave. Refusals 1 to 6 before anything is
+// done, 5 also where the samples are not those of b-a cycles; 7 by a recheck. Where the edit is refused, both answers are the same, and all is as it was.
 pub fn edit_and_take_back(
     c: Config,
     trace: &mut [u32],

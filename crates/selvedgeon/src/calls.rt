@@ -92,8 +92,8 @@ pub extern "C" fn selvedgeon_recheck(
 }
 
 // An edit of cycles a to b-1 made and taken back, with a recheck after each: what it would change, with nothing changed. Answers both rechecks. Refusals 1 to 7, 5
-// also where the samples are not those of b-a cycles; refused: all is as it was. The trace and the samples are in the end as they were, and so are the rows and
-// words of the trace's true record.
+// also where the samples are not those of b-a cycles; where the edit is refused, both answers are the same, and all is as it was. The trace and the samples are
+// in the end as they were, and so are the rows and words of the trace's true record.
 #[no_mangle]
 pub extern "C" fn selvedgeon_edit_and_take_back(
     kind: u8,
