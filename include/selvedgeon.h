@@ -104,7 +104,15 @@ enum selvedgeon_refusal {
     SELVEDGEON_BAD_RANGE = 6,     /* a is above b, or b above N */
     SELVEDGEON_BAD_WORD = 7,      /* the word to go on from is not possible; of a recheck: a kept word is not possible */
     SELVEDGEON_LIST_FULL = 8,     /* three words for each entry exceed the list */
-    SELVEDGEON_TOO_MANY = 9       /* more than 64 checkers */
+    SELVEDGEON_TOO_MANY = 9,      /* more than 64 checkers */
+    /* of a load, by the first place of the dump that shows one, then by number */
+    SELVEDGEON_ILL_FORMED = 10,   /* the text is no VCD, ends too early, or names an identifier that is not declared */
+    SELVEDGEON_DEEP = 11,         /* a scope would be the 33rd open one */
+    SELVEDGEON_LARGE = 12,        /* more than 1,024 variables, an identifier of more than 8 bytes, or a width above 4,096 */
+    SELVEDGEON_NOT_DECLARED = 13, /* the clock or a connected wire is not declared as bits, or its index not in its range */
+    SELVEDGEON_BACKWARDS = 14,    /* a time stamp goes back */
+    SELVEDGEON_UNKNOWN_WIRE = 15, /* never given: an unknown wire has its unknown bit */
+    SELVEDGEON_NO_ROOM = 16       /* a sample for which there is no frame left */
 };
 
 /* a declared range, and a checker of a bench */
@@ -246,6 +254,29 @@ uint64_t selvedgeon_first_failure(uint64_t checkers, uint64_t cycles, const uint
  */
 uint32_t selvedgeon_bench(const struct selvedgeon_config *table, size_t table_len, const uint32_t *frames,
                           size_t frames_len, uint64_t *words, size_t words_len, uint32_t *rows, size_t rows_len);
+
+/* what a load answers */
+struct selvedgeon_loaded {
+    uint32_t refusal;
+    uint64_t frames;     /* how many frames were sampled, also where a later place of the dump is refused */
+    uint64_t line;       /* refused with 10 to 16: that of the word that shows it, at the end the line count */
+    uint64_t identifier; /* refused with 10 for an identifier that is not declared: its bytes, the first lowest; else 0 */
+};
+
+/*
+ * Loads a dump: a text in the four-state VCD of IEEE Std 1364-2005, as simulators write it. Each time stamp in which the
+ * clock goes from 0 to 1 gives one frame: every connected wire as it was before the changes of that stamp. A wire that is
+ * x or z, or has no value yet, has its unknown bit 1 and its value bit 0; a wire that is not connected is 0.
+ * `wires` says what is connected: 129 pairs of an identifier code of the dump and an index in its declared range. Pair 0 is
+ * the clock, pair 1 + 32 w + i is wire i of the frame's word w (0 reset, 1 P, 2 Q, 3 R). A code is a number, its bytes with
+ * the first one lowest; 0 says not connected. The index counts as the dump declares it: [0:3] has its most significant wire
+ * at index 0. A code without a range has width-1 to 0.
+ * Writes: the frames sampled, in front; all behind them stays.
+ * Refusals: 4 where frames_len is no multiple of 8 or is more than 65,536 frames; 5 where wires_len is not 258; both before
+ * anything is read, with frames 0. Then 10 to 14 and 16: frames that were sampled before that place stay written.
+ */
+struct selvedgeon_loaded selvedgeon_load(const uint8_t *dump, size_t dump_len, const uint64_t *wires, size_t wires_len,
+                                         uint32_t *frames, size_t frames_len);
 
 #ifdef __cplusplus
 }

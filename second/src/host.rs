@@ -74,7 +74,7 @@ extern "C" {
 
 const GUARDS: usize = 4;
 
-trait Entry: Copy + PartialEq + Debug {
+pub trait Entry: Copy + PartialEq + Debug {
     const GUARD: Self;
 }
 
@@ -99,13 +99,13 @@ impl Entry for HostConfig {
 static EMPTY_BUFFERS: AtomicUsize = AtomicUsize::new(0);
 
 /// A copy of a buffer that is lent to a call, between guard words.
-struct Lent<T> {
+pub struct Lent<T> {
     name: &'static str,
     store: Vec<T>,
 }
 
 impl<T: Entry> Lent<T> {
-    fn new(name: &'static str, content: &[T]) -> Lent<T> {
+    pub fn new(name: &'static str, content: &[T]) -> Lent<T> {
         let mut store = Vec::with_capacity(content.len() + 2 * GUARDS);
         store.extend([T::GUARD; GUARDS]);
         store.extend(content);
@@ -113,11 +113,11 @@ impl<T: Entry> Lent<T> {
         Lent { name, store }
     }
 
-    fn len(&self) -> usize {
+    pub fn len(&self) -> usize {
         self.store.len() - 2 * GUARDS
     }
 
-    fn pointer(&mut self) -> *mut T {
+    pub fn pointer(&mut self) -> *mut T {
         if self.len() == 0 && EMPTY_BUFFERS.fetch_add(1, Ordering::Relaxed) % 2 == 0 {
             return std::ptr::null_mut();
         }
@@ -125,7 +125,7 @@ impl<T: Entry> Lent<T> {
     }
 
     /// The content after the call, if the guards are as they were.
-    fn content(&self) -> Result<&[T], String> {
+    pub fn content(&self) -> Result<&[T], String> {
         let end = self.store.len() - GUARDS;
         let guards = self.store[..GUARDS].iter().chain(&self.store[end..]);
         if guards.clone().any(|guard| *guard != T::GUARD) {
@@ -134,12 +134,12 @@ impl<T: Entry> Lent<T> {
         Ok(&self.store[GUARDS..end])
     }
 
-    fn give_back(&self, to: &mut [T]) -> Result<(), String> {
+    pub fn give_back(&self, to: &mut [T]) -> Result<(), String> {
         to.copy_from_slice(self.content()?);
         Ok(())
     }
 
-    fn is_unchanged(&self, lent: &[T]) -> Result<(), String> {
+    pub fn is_unchanged(&self, lent: &[T]) -> Result<(), String> {
         match self.content()?.iter().zip(lent).position(|(now, before)| now != before) {
             Some(i) => Err(format!("the call altered entry {i} of {}, which it may only read", self.name)),
             None => Ok(()),

@@ -1,9 +1,10 @@
-//! A second program for the rules of document 01 with §2, §4 to §8 and §12 of document 02, and a comparison of the library
+//! A second program for the rules of document 01 with §1, §2, §4 to §8 and §12 of document 02, and a comparison of the library
 //! with it on many inputs.
 //!
-//! SEED=n sets the seed; CASES=n or SECONDS=n how long to run; CASE=n runs one case alone.
+//! SEED=n sets the seed; CASES=n or SECONDS=n how long to run; CASE=n runs one case alone, DUMP=n one dump.
 
 mod cases;
+mod dumps;
 mod either_order;
 mod fatal;
 mod generate;
@@ -19,6 +20,7 @@ mod whiteboard;
 mod windows;
 
 use cases::{Case, Longest, Size};
+use dumps::Limit;
 use generate::Random;
 use std::process::ExitCode;
 use std::time::{Duration, Instant};
@@ -104,11 +106,25 @@ fn run_case(seed: u64, case: u64, tally: &mut Tally) -> Result<(), String> {
     run_turn(seed, case, tally).map_err(|difference| format!("seed {seed}, case {case}: {difference}"))
 }
 
+fn most_cases() -> u64 {
+    number("CASES").unwrap_or(if number("SECONDS").is_some() { u64::MAX } else { DEFAULT_CASES })
+}
+
+/// A quarter of the time is for dumps.
+fn dumps_share(seconds: u64) -> Duration {
+    Duration::from_secs(seconds) / 4
+}
+
+/// For every four cases there is one dump.
+fn compare_dumps(seed: u64) -> Result<(), String> {
+    dumps::compare(seed, Limit { dumps: most_cases() / 4, time: number("SECONDS").map(dumps_share) })
+}
+
 /// Answers how many cases were run.
 fn run(seed: u64, tally: &mut Tally) -> Result<u64, String> {
     let begin = Instant::now();
-    let seconds = number("SECONDS").map(Duration::from_secs);
-    let cases = number("CASES").unwrap_or(if seconds.is_some() { u64::MAX } else { DEFAULT_CASES });
+    let seconds = number("SECONDS").map(|seconds| Duration::from_secs(seconds) - dumps_share(seconds));
+    let cases = most_cases();
     let mut case = 0;
     while case < cases && seconds.is_none_or(|most| begin.elapsed() < most) {
         run_case(seed, case, tally)?;
@@ -123,6 +139,9 @@ fn compare_all(seed: u64) -> Result<String, String> {
         run_case(seed, case, &mut tally)?;
         return Ok(format!("second: case {case}, seed {seed}, equal"));
     }
+    if let Some(dump) = number("DUMP") {
+        return dumps::show(seed, dump);
+    }
     println!("{}", whiteboard::compare()?);
     println!("small inputs: {}, all equal\n", small::compare()?);
     let cases = run(seed, &mut tally)?;
@@ -134,14 +153,27 @@ fn compare_all(seed: u64) -> Result<String, String> {
             missed.join("\n  ")
         ));
     }
+    compare_dumps(seed)?;
     Ok(format!("\nsecond: {cases} cases, seed {seed}, all equal, none was missed"))
 }
 
 /// The whole program: `main.rs` calls it.
 pub fn compare() -> ExitCode {
+    run_part(compare_all)
+}
+
+/// The dumps alone: `dumps/main.rs` calls it. Without a call that loads dumps this needs no library.
+pub fn compare_dumps_alone() -> ExitCode {
+    run_part(|seed| match number("DUMP") {
+        Some(dump) => dumps::show(seed, dump),
+        None => compare_dumps(seed).map(|()| format!("\nsecond: dumps alone, seed {seed}, all equal, none was missed")),
+    })
+}
+
+fn run_part(part: fn(u64) -> Result<String, String>) -> ExitCode {
     let seed = number("SEED").unwrap_or(DEFAULT_SEED);
     println!("second: seed {seed}");
-    match compare_all(seed) {
+    match part(seed) {
         Ok(line) => {
             println!("{line}");
             ExitCode::SUCCESS

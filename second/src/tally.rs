@@ -329,7 +329,7 @@ impl Tally {
     }
 }
 
-fn print_line(name: &str, columns: impl Iterator<Item = String>, last: &str) {
+pub fn print_line(name: &str, columns: impl Iterator<Item = String>, last: &str) {
     let columns: String = columns.map(|column| format!("{column:>11}")).collect();
     println!("{name:<13}{columns}{last:>9}");
 }

@@ -1,0 +1,2 @@
+-- What the contracts of the changes' words cite.
+pub mod Change

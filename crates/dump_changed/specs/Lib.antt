@@ -1,0 +1,2 @@
+-- What the numbers, the store and the frames of the changes say.
+pub mod Changed

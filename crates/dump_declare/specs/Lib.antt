@@ -1,0 +1,2 @@
+-- What the contracts of the declarations' words cite.
+pub mod Declare

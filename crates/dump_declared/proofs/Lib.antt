@@ -1,0 +1,10 @@
+pub mod Says
+pub mod Commands
+pub mod Parts
+pub mod Lookup
+pub mod Vars
+pub mod Ranges
+pub mod Ends
+pub mod Step
+pub mod Trees
+pub mod Sounds

@@ -1,0 +1,2 @@
+-- What the declarations' numbers and store say.
+pub mod Declared

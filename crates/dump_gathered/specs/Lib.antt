@@ -1,0 +1,2 @@
+-- What is kept of a whole word.
+pub mod Gathered

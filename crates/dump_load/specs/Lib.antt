@@ -1,0 +1,2 @@
+-- What the contracts of the load cite.
+pub mod Loading

@@ -1,0 +1,4 @@
+pub mod Words
+pub mod Lines
+pub mod Gathers
+pub mod Declaring

@@ -1,0 +1,3 @@
+-- What the claims about the reader cite.
+pub mod Gathers
+pub mod Declaring

@@ -1,0 +1,29 @@
+use Rattle.dump_reader.specs.Machine.{nameScan, rangeScan, begunChange, begun, vectorAdd, vectorDigits, continued, continuedDigits, placeOf, refused, newLine, countLines, lastPlace, lastStore, endDeclaration, endLast, endChange, endWord, addByte, closedWord, byteStep, step, feed, complete, unfinished, closing, finishAt, finish}
+use mathlib.Core.Path.{_≡_, refl, _∙_, sym, ap}
+use borrow.Author.Tests.{le-ltb, lt-ltb, le-leb, lt-leb, eq-eqb, ne-eqb}
+use native.Mathlib.Omega.{arith}
+use denote.Ref.{now}
+use borrow.Author.Needs.{needs}
+use Rattle.dump_reader.proofs.ending.is_complete.Statement.{statement}
+use Rattle.dump_reader.proofs.ending.is_complete.Tie as tie
+use Rattle.dump_reader.proofs.ending.is_complete.Reads as reads
+use Rattle.dump_reader.proofs.ending.is_complete.Lts as lts
+
+returns : tie.Need-returns
+unfolding endDeclaration endLast endChange step complete
+returns c = simp (ne-eqb _ _ (c .if1 .taken))
+
+returns-2 : tie.Need-returns-2
+unfolding endDeclaration endLast endChange step complete
+returns-2 c = simp (ne-eqb _ _ (c .if2 .taken), eq-eqb _ _ (c .before .before .if1 .left))
+
+returns-3 : tie.Need-returns-3
+unfolding endDeclaration endLast endChange step complete
+returns-3 c = simp (ne-eqb _ _ (c .if3 .taken), eq-eqb _ _ (c .before .before .if2 .left), eq-eqb _ _ (c .before .before .before .before .if1 .left))
+
+returns-4 : tie.Need-returns-4
+unfolding endDeclaration endLast endChange step complete
+returns-4 c = simp (eq-eqb _ _ (c .if3 .left), eq-eqb _ _ (c .before .before .if2 .left), eq-eqb _ _ (c .before .before .before .before .if1 .left))
+
+pub is-complete-spec : {M : Type 1} → statement M
+is-complete-spec = tie.close (tie.spec returns returns-2 returns-3 returns-4)

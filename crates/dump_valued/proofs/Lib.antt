@@ -1,0 +1,10 @@
+pub mod Words
+pub mod Survivals
+pub mod Put
+pub mod Puts
+pub mod Spans
+pub mod Change
+pub mod Table
+pub mod First
+pub mod Connect
+pub mod Sample

@@ -1,0 +1,2 @@
+-- What the claims about the values in a store cite.
+pub mod Valued

@@ -1,0 +1,2 @@
+-- What the contracts of the word's parts cite.
+pub mod Gather
