@@ -1,11 +1,11 @@
 // Changes of one wire: a scalar, and the code of a vector or of a real.
+use crate::wave::Wave;
 use crate::wave::unknown_code;
 use crate::wave::wave_at;
-use crate::wave::Wave;
 use dump_find::find;
 use dump_values::change_bits;
-use dump_words::text_is;
 use dump_words::Text;
+use dump_words::text_is;
 ghost use mathlib.Core.Path.{_≡_};
 ghost use Prim.Native.Nat.{_≤_, _<_};
 ghost use lib.ListN.{length};

@@ -1,9 +1,9 @@
 // Keywords among the changes, the value that a byte says, and the words that only say what is due.
-use crate::wave::wave_at;
 use crate::wave::Wave;
+use crate::wave::wave_at;
+use dump_words::Text;
 use dump_words::one_of;
 use dump_words::text_is;
-use dump_words::Text;
 ghost use mathlib.Core.Path.{_≡_};
 ghost use Rattle.dump.specs.Changes.{valueOf};
 ghost use Rattle.dump_change.specs.Change.{dumps, inDump, onDollar, onComment, onVector, onReal};
@@ -59,7 +59,20 @@ pub fn on_dollar(w: Wave, t: Text) -> Wave
         return in_dump(w, t);
     }
     // $dumpall $dumpoff $dumpon $dumpvars
-    let words = [8, 7812726589081609252, 0, 8, 7378707568156566564, 0, 7, 31084776101602340, 0, 9, 8241999018309542948, 115];
+    let words = [
+        8,
+        7812726589081609252,
+        0,
+        8,
+        7378707568156566564,
+        0,
+        7,
+        31084776101602340,
+        0,
+        9,
+        8241999018309542948,
+        115,
+    ];
     if one_of(t, &words) {
         return with_dumping(w, 1);
     }

@@ -1,6 +1,6 @@
 // A stamp is closed: one frame is sampled where the clock rose.
-use crate::wave::wave_at;
 use crate::wave::Wave;
+use crate::wave::wave_at;
 ghost use mathlib.Core.Path.{_≡_};
 ghost use Prim.Native.Nat.{_+_, _*_, _≤_};
 ghost use lib.ListN.{length};

@@ -1,7 +1,7 @@
 // A stamp of the dump.
 use crate::sample::close_stamp;
-use crate::wave::wave_at;
 use crate::wave::Wave;
+use crate::wave::wave_at;
 use dump_words::Number;
 ghost use mathlib.Core.Path.{_≡_};
 ghost use Prim.Native.Nat.{_≤_};

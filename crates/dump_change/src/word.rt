@@ -8,8 +8,8 @@ use crate::dollar::on_real;
 use crate::dollar::on_vector;
 use crate::dollar::value_of;
 use crate::stamp::on_stamp;
-use crate::wave::wave_at;
 use crate::wave::Wave;
+use crate::wave::wave_at;
 use dump_words::Number;
 use dump_words::Text;
 ghost use mathlib.Core.Path.{_≡_};
@@ -40,7 +40,17 @@ fn on_text(w: Wave, t: Text, n: usize, store: &mut [u64]) -> Wave
 }
 
 // A word where a change is due: of class 2 a stamp, of class 4 a vector, else a text.
-fn on_change(w: Wave, class: u64, t: Text, number: Number, count: u64, wrong: u64, n: usize, store: &mut [u64], frames: &mut [u32]) -> Wave
+fn on_change(
+    w: Wave,
+    class: u64,
+    t: Text,
+    number: Number,
+    count: u64,
+    wrong: u64,
+    n: usize,
+    store: &mut [u64],
+    frames: &mut [u32],
+) -> Wave
     requires { ⌜ (length (now store) ≡ 8468) × (n ≤ 1024) × (length (now frames) ≤ 524288) ⌝ }
     ensures { λ r. ⌜ (r ≡ changeWave w class t number count wrong n (now (store .entry)) (now (frames .entry))) × (now (store .exit) ≡ changeStore w class t number n (now (store .entry)) (now (frames .entry))) × (now (frames .exit) ≡ changeFrames w class number (now (store .entry)) (now (frames .entry))) ⌝ }
 {
@@ -71,7 +81,18 @@ fn on_code(w: Wave, t: Text, n: usize, store: &mut [u64], digits: &[u8]) -> Wave
 }
 
 // What is kept of the word: its class, its text, the number of a stamp, or the digits of a vector.
-pub fn change_word(w: Wave, class: u64, t: Text, number: Number, count: u64, wrong: u64, n: usize, store: &mut [u64], digits: &[u8], frames: &mut [u32]) -> Wave
+pub fn change_word(
+    w: Wave,
+    class: u64,
+    t: Text,
+    number: Number,
+    count: u64,
+    wrong: u64,
+    n: usize,
+    store: &mut [u64],
+    digits: &[u8],
+    frames: &mut [u32],
+) -> Wave
     requires { ⌜ (length (now store) ≡ 8468) × (n ≤ 1024) × (length (now digits) ≡ 4096) × (length (now frames) ≤ 524288) ⌝ }
     ensures { λ r. ⌜ (r ≡ wordWave w class t number count wrong n (now (store .entry)) (now (frames .entry))) × (now (store .exit) ≡ wordStore w class t number n (now (store .entry)) (now (digits .entry)) (now (frames .entry))) × (now (frames .exit) ≡ wordFrames w class number (now (store .entry)) (now (frames .entry))) ⌝ }
 {

@@ -1,12 +1,12 @@
 // The end of `$var`: its code is declared, for the first time or again.
+use crate::head::Head;
 use crate::head::at_command;
 use crate::head::at_place;
-use crate::head::Head;
 use dump_find::bounded_count;
 use dump_find::find;
 use dump_find::slot_of;
-use dump_words::text_is;
 use dump_words::Text;
+use dump_words::text_is;
 ghost use mathlib.Core.Path.{_≡_};
 ghost use Prim.Native.Nat.{_≤_, _<_};
 ghost use lib.ListN.{length};

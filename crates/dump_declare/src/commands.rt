@@ -1,10 +1,10 @@
 // The keyword of a command, and the words of all commands but `$var`.
+use crate::head::Head;
 use crate::head::at_command;
 use crate::head::at_place;
-use crate::head::Head;
+use dump_words::Text;
 use dump_words::one_of;
 use dump_words::text_is;
-use dump_words::Text;
 ghost use mathlib.Core.Path.{_≡_};
 ghost use Rattle.dump_declare.specs.Declare.{opens, closes, declares, endsAll, onCommand, onComment, onScale, onUnit, onCommandEnd, onScopeType, onScopeName};
 
@@ -48,7 +48,17 @@ pub fn on_command(h: Head, t: Text) -> Head
     ensures { λ r. ⌜ r ≡ onCommand h t ⌝ }
 {
     // $comment $date $version
-    let skipped = [8, 8389754676499669796, 0, 5, 435744236580, 0, 8, 7957695011148363300, 0];
+    let skipped = [
+        8,
+        8389754676499669796,
+        0,
+        5,
+        435744236580,
+        0,
+        8,
+        7957695011148363300,
+        0,
+    ];
     if one_of(t, &skipped) {
         return at_place(h, 1);
     }
@@ -95,9 +105,60 @@ pub fn on_scale(h: Head, t: Text) -> Head
     }
     // 1s 1ms 1us 1ns 1ps 1fs 10s 10ms 10us 10ns 10ps 10fs 100s 100ms 100us 100ns 100ps 100fs
     let scales = [
-        2, 29489, 0, 3, 7564593, 0, 3, 7566641, 0, 3, 7564849, 0, 3, 7565361, 0, 3, 7562801, 0, 3, 7548977, 0, 4, 1936535601, 0, 4, 1937059889, 0,
-        4, 1936601137, 0, 4, 1936732209, 0, 4, 1936076849, 0, 4, 1932537905, 0, 5, 495753113649, 0, 5, 495887331377, 0, 5, 495769890865, 0, 5,
-        495803445297, 0, 5, 495635673137, 0,
+        2,
+        29489,
+        0,
+        3,
+        7564593,
+        0,
+        3,
+        7566641,
+        0,
+        3,
+        7564849,
+        0,
+        3,
+        7565361,
+        0,
+        3,
+        7562801,
+        0,
+        3,
+        7548977,
+        0,
+        4,
+        1936535601,
+        0,
+        4,
+        1937059889,
+        0,
+        4,
+        1936601137,
+        0,
+        4,
+        1936732209,
+        0,
+        4,
+        1936076849,
+        0,
+        4,
+        1932537905,
+        0,
+        5,
+        495753113649,
+        0,
+        5,
+        495887331377,
+        0,
+        5,
+        495769890865,
+        0,
+        5,
+        495803445297,
+        0,
+        5,
+        495635673137,
+        0,
     ];
     if one_of(t, &scales) {
         return at_place(h, 4);
@@ -109,7 +170,26 @@ pub fn on_unit(h: Head, t: Text) -> Head
     ensures { λ r. ⌜ r ≡ onUnit h t ⌝ }
 {
     // s ms us ns ps fs
-    let units = [1, 115, 0, 2, 29549, 0, 2, 29557, 0, 2, 29550, 0, 2, 29552, 0, 2, 29542, 0];
+    let units = [
+        1,
+        115,
+        0,
+        2,
+        29549,
+        0,
+        2,
+        29557,
+        0,
+        2,
+        29550,
+        0,
+        2,
+        29552,
+        0,
+        2,
+        29542,
+        0,
+    ];
     if one_of(t, &units) {
         return at_place(h, 4);
     }
@@ -129,7 +209,23 @@ pub fn on_scope_type(h: Head, t: Text) -> Head
     ensures { λ r. ⌜ r ≡ onScopeType h t ⌝ }
 {
     // begin fork function module task
-    let types = [5, 474214786402, 0, 4, 1802661734, 0, 8, 7957695015192261990, 0, 6, 111516500389741, 0, 4, 1802723700, 0];
+    let types = [
+        5,
+        474214786402,
+        0,
+        4,
+        1802661734,
+        0,
+        8,
+        7957695015192261990,
+        0,
+        6,
+        111516500389741,
+        0,
+        4,
+        1802723700,
+        0,
+    ];
     if one_of(t, &types) {
         return at_place(h, 6);
     }

@@ -5,6 +5,6 @@ mod head;
 mod place;
 mod vars;
 
-pub use head::at_place;
 pub use head::Head;
+pub use head::at_place;
 pub use place::declaration;

@@ -1,14 +1,14 @@
 // The words of `$var`, up to its name and its range.
+use crate::head::Head;
 use crate::head::at_place;
 use crate::head::at_range;
-use crate::head::Head;
 use dump_find::bounded_count;
 use dump_find::find;
-use dump_words::one_of;
-use dump_words::text_is;
 use dump_words::Number;
 use dump_words::Scan;
 use dump_words::Text;
+use dump_words::one_of;
+use dump_words::text_is;
 ghost use mathlib.Core.Path.{_≡_};
 ghost use lib.ListN.{length};
 ghost use Prim.Native.Nat.{_≤_, _<_};
@@ -29,9 +29,54 @@ pub fn on_var_type(h: Head, t: Text) -> Head
 {
     // event integer parameter reg supply0 supply1 time tri triand trior trireg tri0 tri1 wand wire wor
     let bits = [
-        5, 500068349541, 0, 7, 32199642103180905, 0, 9, 7310579615589884272, 114, 3, 6776178, 0, 7, 13644305531958643, 0, 7, 13925780508669299, 0, 4,
-        1701669236, 0, 3, 6910580, 0, 6, 110425243480692, 0, 5, 491495453300, 0, 6, 113685408871028, 0, 4, 812216948, 0, 4, 828994164, 0, 4,
-        1684955511, 0, 4, 1701996919, 0, 3, 7499639, 0,
+        5,
+        500068349541,
+        0,
+        7,
+        32199642103180905,
+        0,
+        9,
+        7310579615589884272,
+        114,
+        3,
+        6776178,
+        0,
+        7,
+        13644305531958643,
+        0,
+        7,
+        13925780508669299,
+        0,
+        4,
+        1701669236,
+        0,
+        3,
+        6910580,
+        0,
+        6,
+        110425243480692,
+        0,
+        5,
+        491495453300,
+        0,
+        6,
+        113685408871028,
+        0,
+        4,
+        812216948,
+        0,
+        4,
+        828994164,
+        0,
+        4,
+        1684955511,
+        0,
+        4,
+        1701996919,
+        0,
+        3,
+        7499639,
+        0,
     ];
     if one_of(t, &bits) {
         return with_type(h, 0);

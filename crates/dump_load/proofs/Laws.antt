@@ -42,7 +42,7 @@ fits-most words e = go (eqb (words % 8) 0) refl (leb (words / 8) 65536) refl e
 
 -- begin, one piece, end
 module _ (dump wires frames : List ℕ) (r : Reader) (store digits : List ℕ) (er : r ≡ firstReader) (es : store ≡ tableFrom (replicate 8468 0) wires 0 258) (ed : digits ≡ replicate 4096 0)
-  (s t : All) (fed : s ≡ feed (record { reader = r; store = store; digits = digits; frames = frames }) dump) (ends : t ≡ finish s) where
+    (s t : All) (fed : s ≡ feed (record { reader = r; store = store; digits = digits; frames = frames }) dump) (ends : t ≡ finish s) where
   all : t ≡ readAll dump wires frames
   unfolding readAll
   all = ends ∙ ap finish (fed ∙ rw (er, es, ed) refl)

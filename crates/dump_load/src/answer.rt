@@ -1,6 +1,6 @@
 // What a load answers.
-use dump_reader::place_of;
 use dump_reader::Reader;
+use dump_reader::place_of;
 ghost use mathlib.Core.Path.{_≡_};
 ghost use Rattle.dump_load.specs.Loading.{refusedWith, answered};
 
@@ -18,7 +18,12 @@ pub struct Loaded {
 pub fn refused_with(refusal: u32) -> Loaded
     ensures { λ r. ⌜ r ≡ refusedWith refusal ⌝ }
 {
-    Loaded { refusal, frames: 0, line: 0, identifier: 0 }
+    Loaded {
+        refusal,
+        frames: 0,
+        line: 0,
+        identifier: 0,
+    }
 }
 
 // The answer of a reader behind the end of the text.
@@ -28,8 +33,18 @@ pub fn answer_of(r: Reader) -> Loaded
     let wave = r.wave;
     let place = place_of(r);
     if place < 100 {
-        return Loaded { refusal: 0, frames: wave.frames, line: 0, identifier: 0 };
+        return Loaded {
+            refusal: 0,
+            frames: wave.frames,
+            line: 0,
+            identifier: 0,
+        };
     }
     let refusal = (place - 100) % 4294967296;
-    Loaded { refusal: refusal as u32, frames: wave.frames, line: r.shown, identifier: wave.identifier }
+    Loaded {
+        refusal: refusal as u32,
+        frames: wave.frames,
+        line: r.shown,
+        identifier: wave.identifier,
+    }
 }

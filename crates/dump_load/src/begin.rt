@@ -1,8 +1,8 @@
 // The state in which a reader begins.
 use dump_change::Wave;
 use dump_declare::Head;
-use dump_reader::no_word;
 use dump_reader::Reader;
+use dump_reader::no_word;
 ghost use mathlib.Core.Path.{_≡_};
 ghost use Prim.Native.Nat.{_≤_};
 ghost use lib.ListN.{length};
@@ -24,9 +24,24 @@ pub fn first_reader() -> Reader
         left: 0,
         right: 0,
     };
-    let wave = Wave { place: 0, identifier: 0, dumping: 0, count: 0, stamped: 0, stamp: 0, frames: 0 };
+    let wave = Wave {
+        place: 0,
+        identifier: 0,
+        dumping: 0,
+        count: 0,
+        stamped: 0,
+        stamp: 0,
+        frames: 0,
+    };
     let word = no_word();
-    Reader { line: 1, started: 0, shown: 0, word, head, wave }
+    Reader {
+        line: 1,
+        started: 0,
+        shown: 0,
+        word,
+        head,
+        wave,
+    }
 }
 
 // The table of connections, put into the store.

@@ -1,7 +1,7 @@
 // The call.
+use crate::answer::Loaded;
 use crate::answer::answer_of;
 use crate::answer::refused_with;
-use crate::answer::Loaded;
 use crate::begin::first_reader;
 use crate::begin::put_table;
 use dump_reader::end_text;

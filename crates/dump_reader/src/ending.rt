@@ -1,11 +1,11 @@
 // The end of the text.
+use crate::state::Reader;
 use crate::state::count_lines;
 use crate::state::is_refused;
-use crate::state::Reader;
 use crate::word_end::end_word;
+use dump_change::Wave;
 use dump_change::close_stamp;
 use dump_change::wave_at;
-use dump_change::Wave;
 use dump_declare::at_place;
 ghost use mathlib.Core.Path.{_≡_};
 ghost use mathlib.Core.List.{List};
@@ -38,7 +38,14 @@ fn at_end(r: Reader, count: u64, place: u64, wave: Wave) -> Reader
     let old = r.head;
     let head = at_place(old, place);
     let word = r.word;
-    Reader { line: r.line, started: r.started, shown: count, word, head, wave }
+    Reader {
+        line: r.line,
+        started: r.started,
+        shown: count,
+        word,
+        head,
+        wave,
+    }
 }
 
 // The text ends where it must not.

@@ -7,8 +7,8 @@ mod word_end;
 
 pub use ending::end_text;
 pub use piece::read_bytes;
+pub use state::Reader;
 pub use state::is_refused;
 pub use state::place_of;
-pub use state::Reader;
-pub use word::no_word;
 pub use word::Word;
+pub use word::no_word;

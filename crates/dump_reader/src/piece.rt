@@ -1,8 +1,8 @@
 // The bytes of a piece.
+use crate::state::Reader;
 use crate::state::is_refused;
 use crate::state::new_line;
 use crate::state::place_of;
-use crate::state::Reader;
 use crate::word::add_byte;
 use crate::word::begin_word;
 use crate::word_end::end_word;
@@ -72,7 +72,13 @@ fn read_byte(r: Reader, b: u8, store: &mut [u64], digits: &mut [u8], frames: &mu
 }
 
 // All bytes; none behind the word that is refused.
-pub fn read_bytes(r: Reader, bytes: &[u8], store: &mut [u64], digits: &mut [u8], frames: &mut [u32]) -> Reader
+pub fn read_bytes(
+    r: Reader,
+    bytes: &[u8],
+    store: &mut [u64],
+    digits: &mut [u8],
+    frames: &mut [u32],
+) -> Reader
     requires { ⌜ (length (now store) ≡ 8468) × (length (now digits) ≡ 4096) × (length (now frames) ≤ 524288) ⌝ }
     ensures { λ s. ⌜ record { reader = s; store = now (store .exit); digits = now (digits .exit); frames = now (frames .exit) } ≡ feed (record { reader = r; store = now (store .entry); digits = now (digits .entry); frames = now (frames .entry) }) (now (bytes .entry)) ⌝ }
 {

@@ -1,11 +1,11 @@
 // What is kept of the word that is read.
 use dump_change::value_of;
-use dump_words::add_digit;
-use dump_words::add_scan;
-use dump_words::add_text;
 use dump_words::Number;
 use dump_words::Scan;
 use dump_words::Text;
+use dump_words::add_digit;
+use dump_words::add_scan;
+use dump_words::add_text;
 ghost use mathlib.Core.Path.{_≡_};
 ghost use lib.ListN.{length};
 ghost use Rattle.dump.specs.Changes.{valueOf};
@@ -31,9 +31,27 @@ pub fn no_word() -> Word
     let left = Number { value: 0, state: 0 };
     let right = Number { value: 0, state: 0 };
     let number = Number { value: 0, state: 0 };
-    let text = Text { length: 0, low: 0, high: 0, plain: 1 };
-    let scan = Scan { kind: 0, counts: 0, phase: 0, left, right };
-    Word { class: 0, count: 0, wrong: 0, text, number, scan }
+    let text = Text {
+        length: 0,
+        low: 0,
+        high: 0,
+        plain: 1,
+    };
+    let scan = Scan {
+        kind: 0,
+        counts: 0,
+        phase: 0,
+        left,
+        right,
+    };
+    Word {
+        class: 0,
+        count: 0,
+        wrong: 0,
+        text,
+        number,
+        scan,
+    }
 }
 
 fn text_word(b: u8) -> Word
@@ -80,9 +98,27 @@ fn name_word(b: u8) -> Word
     let left = Number { value: 0, state: 0 };
     let right = Number { value: 0, state: 0 };
     if b == 92 {
-        return scan_word(b, Scan { kind: 1, counts: 0, phase: 0, left, right });
+        return scan_word(
+            b,
+            Scan {
+                kind: 1,
+                counts: 0,
+                phase: 0,
+                left,
+                right,
+            },
+        );
     }
-    scan_word(b, Scan { kind: 0, counts: 1, phase: 0, left, right })
+    scan_word(
+        b,
+        Scan {
+            kind: 0,
+            counts: 1,
+            phase: 0,
+            left,
+            right,
+        },
+    )
 }
 
 fn range_word(b: u8) -> Word
@@ -91,9 +127,27 @@ fn range_word(b: u8) -> Word
     let left = Number { value: 0, state: 0 };
     let right = Number { value: 0, state: 0 };
     if b == 91 {
-        return scan_word(b, Scan { kind: 2, counts: 0, phase: 1, left, right });
+        return scan_word(
+            b,
+            Scan {
+                kind: 2,
+                counts: 0,
+                phase: 1,
+                left,
+                right,
+            },
+        );
     }
-    scan_word(b, Scan { kind: 2, counts: 0, phase: 0, left, right })
+    scan_word(
+        b,
+        Scan {
+            kind: 2,
+            counts: 0,
+            phase: 0,
+            left,
+            right,
+        },
+    )
 }
 
 // The first byte of a word where a change is due.

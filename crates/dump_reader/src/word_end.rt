@@ -1,16 +1,16 @@
 // The end of a word: what it says is told by the place of the grammar.
 use crate::state::Reader;
 use crate::word::no_word;
-use dump_change::change_word;
 use dump_change::Wave;
+use dump_change::change_word;
+use dump_declare::Head;
 use dump_declare::at_place;
 use dump_declare::declaration;
-use dump_declare::Head;
 use dump_find::bounded_count;
 use dump_values::connect;
 use dump_values::table_good;
-use dump_words::text_is;
 use dump_words::Text;
+use dump_words::text_is;
 ghost use mathlib.Core.Path.{_≡_};
 ghost use Prim.Native.Nat.{_≤_};
 ghost use lib.ListN.{length};
@@ -24,7 +24,14 @@ fn behind(r: Reader, head: Head, wave: Wave) -> Reader
     ensures { λ s. ⌜ s ≡ ended r head wave ⌝ }
 {
     let word = no_word();
-    Reader { line: r.line, started: r.started, shown: r.line, word, head, wave }
+    Reader {
+        line: r.line,
+        started: r.started,
+        shown: r.line,
+        word,
+        head,
+        wave,
+    }
 }
 
 fn end_declaration(r: Reader, store: &mut [u64]) -> Reader
@@ -78,7 +85,15 @@ fn end_last(r: Reader, store: &mut [u64]) -> Reader
     let old = r.head;
     let place = connect_last(old, text, store);
     let head = at_place(old, place);
-    let wave = Wave { place: 20, identifier: 0, dumping: 0, count: 0, stamped: 0, stamp: 0, frames: 0 };
+    let wave = Wave {
+        place: 20,
+        identifier: 0,
+        dumping: 0,
+        count: 0,
+        stamped: 0,
+        stamp: 0,
+        frames: 0,
+    };
     behind(r, head, wave)
 }
 
@@ -92,7 +107,18 @@ fn end_change(r: Reader, store: &mut [u64], digits: &[u8], frames: &mut [u32]) -
     let head = r.head;
     let old = r.wave;
     let n = bounded_count(head.codes);
-    let wave = change_word(old, word.class, text, number, word.count, word.wrong, n, store, digits, frames);
+    let wave = change_word(
+        old,
+        word.class,
+        text,
+        number,
+        word.count,
+        word.wrong,
+        n,
+        store,
+        digits,
+        frames,
+    );
     behind(r, head, wave)
 }
 

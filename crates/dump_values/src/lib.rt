@@ -5,7 +5,7 @@ mod put;
 mod span;
 mod table;
 
-pub use table::connect;
-pub use table::table_good;
 pub use put::put_value;
 pub use span::change_bits;
+pub use table::connect;
+pub use table::table_good;

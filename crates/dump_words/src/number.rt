@@ -30,5 +30,8 @@ pub fn add_digit(n: Number, b: u8) -> Number
     if ten > 18446744073709551615 - d {
         return Number { value: 0, state: 2 };
     }
-    Number { value: ten + d, state: 1 }
+    Number {
+        value: ten + d,
+        state: 1,
+    }
 }

@@ -1,6 +1,6 @@
 // A range at the end of a word, byte by byte.
-use crate::number::add_digit;
 use crate::number::Number;
+use crate::number::add_digit;
 ghost use mathlib.Core.Path.{_≡_};
 ghost use Rattle.dump_words.specs.Gather.{scanAdd, countsAfter, leftDigit, leftAdd, rightDigit, rightAdd, scanPhase};
 
@@ -44,7 +44,13 @@ fn left_digit(s: Scan, b: u8) -> Scan
     let right = s.right;
     let l = add_digit(left, b);
     let phase = phase_of(l, 1);
-    Scan { kind: s.kind, counts: s.counts, phase, left: l, right }
+    Scan {
+        kind: s.kind,
+        counts: s.counts,
+        phase,
+        left: l,
+        right,
+    }
 }
 
 // A byte behind the opening bracket, which is no bracket of that sort.
@@ -57,10 +63,22 @@ fn add_left(s: Scan, b: u8) -> Scan
         return left_digit(s, b);
     }
     if b == 58 {
-        return Scan { kind: s.kind, counts: s.counts, phase: 2, left, right };
+        return Scan {
+            kind: s.kind,
+            counts: s.counts,
+            phase: 2,
+            left,
+            right,
+        };
     }
     if b == 93 {
-        return Scan { kind: s.kind, counts: s.counts, phase: 3, left, right };
+        return Scan {
+            kind: s.kind,
+            counts: s.counts,
+            phase: 3,
+            left,
+            right,
+        };
     }
     left_digit(s, b)
 }
@@ -72,7 +90,13 @@ fn right_digit(s: Scan, b: u8) -> Scan
     let right = s.right;
     let r = add_digit(right, b);
     let phase = phase_of(r, 2);
-    Scan { kind: s.kind, counts: s.counts, phase, left, right: r }
+    Scan {
+        kind: s.kind,
+        counts: s.counts,
+        phase,
+        left,
+        right: r,
+    }
 }
 
 // A byte behind the colon, which is no opening bracket.
@@ -85,7 +109,13 @@ fn add_right(s: Scan, b: u8) -> Scan
         return right_digit(s, b);
     }
     if b == 93 {
-        return Scan { kind: s.kind, counts: s.counts, phase: 4, left, right };
+        return Scan {
+            kind: s.kind,
+            counts: s.counts,
+            phase: 4,
+            left,
+            right,
+        };
     }
     right_digit(s, b)
 }
@@ -101,16 +131,40 @@ pub fn add_scan(s: Scan, b: u8) -> Scan
         let none = Number { value: 0, state: 0 };
         let none2 = Number { value: 0, state: 0 };
         if s.counts == 1 {
-            return Scan { kind: s.kind, counts, phase: 1, left: none, right: none2 };
+            return Scan {
+                kind: s.kind,
+                counts,
+                phase: 1,
+                left: none,
+                right: none2,
+            };
         }
-        return Scan { kind: s.kind, counts, phase: 0, left: none, right: none2 };
+        return Scan {
+            kind: s.kind,
+            counts,
+            phase: 0,
+            left: none,
+            right: none2,
+        };
     }
-    let t = Scan { kind: s.kind, counts, phase: s.phase, left, right };
+    let t = Scan {
+        kind: s.kind,
+        counts,
+        phase: s.phase,
+        left,
+        right,
+    };
     if s.phase == 1 {
         return add_left(t, b);
     }
     if s.phase == 2 {
         return add_right(t, b);
     }
-    Scan { kind: s.kind, counts, phase: 0, left, right }
+    Scan {
+        kind: s.kind,
+        counts,
+        phase: 0,
+        left,
+        right,
+    }
 }

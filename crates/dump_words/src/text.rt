@@ -33,13 +33,28 @@ pub fn add_text(t: Text, b: u8) -> Text
     let n = t.length;
     if n < 8 {
         let low = t.low | ((b as u64) << (8 * n));
-        return Text { length: n + 1, low, high: t.high, plain };
+        return Text {
+            length: n + 1,
+            low,
+            high: t.high,
+            plain,
+        };
     }
     if n < 16 {
         let high = t.high | ((b as u64) << (8 * (n - 8)));
-        return Text { length: n + 1, low: t.low, high, plain };
+        return Text {
+            length: n + 1,
+            low: t.low,
+            high,
+            plain,
+        };
     }
-    Text { length: 17, low: t.low, high: t.high, plain }
+    Text {
+        length: 17,
+        low: t.low,
+        high: t.high,
+        plain,
+    }
 }
 
 // Whether the word is the one of this length and these bytes.

@@ -1,6 +1,6 @@
 // The load of a dump.
-use dump_load::load_dump;
 use dump_load::Loaded;
+use dump_load::load_dump;
 ghost use mathlib.Core.Path.{_≡_};
 ghost use Rattle.dump.specs.Load.{load, filled};
 ghost use Rattle.dump_load.specs.Loading.{loadedOf};

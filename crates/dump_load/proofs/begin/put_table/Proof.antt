@@ -1,18 +1,13 @@
 use lib.ListN.{length-set}
 use Rattle.dump_load.proofs.Laws as laws
-use Rattle.dump_load.specs.Loading.{fits, answered, tableFrom, readAll}
-use mathlib.Core.Path.{_≡_, refl, _∙_, sym, ap}
-use mathlib.Core.Logic.{inl, inr}
-use Prim.Native.Nat.{_≤_, _<_, _+_, _-_, _*_}
-use lib.ListN.{length, getD, take, drop}
-use borrow.Author.Tests.{le-ltb, lt-ltb, le-leb, lt-leb, eq-eqb, ne-eqb}
+use Rattle.dump_load.specs.Loading.{tableFrom}
+use mathlib.Core.Path.{_≡_, refl, _∙_, sym}
+use Prim.Native.Nat.{_-_}
+use lib.ListN.{length}
 use native.Mathlib.Omega.{arith}
 use borrow.Author.Needs.{needs}
-use denote.Ref.{now}
 use Rattle.dump_load.proofs.begin.put_table.Statement.{statement}
 use Rattle.dump_load.proofs.begin.put_table.Tie as tie
-use Rattle.dump_load.proofs.begin.put_table.Reads as reads
-use Rattle.dump_load.proofs.begin.put_table.Lts as lts
 
 abbrev Inv-loop : tie.InvT-loop
 Inv-loop store₀ wires k₀ store k = (length store ≡ 8468) × (tableFrom store₀ wires 0 258 ≡ tableFrom store wires k (258 - k))

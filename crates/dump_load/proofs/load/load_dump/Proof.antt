@@ -1,16 +1,13 @@
 use Rattle.dump_load.proofs.Laws as laws
 use Rattle.dump_load.proofs.Meets.{meets}
 use Rattle.dump_gathered.proofs.Codes.{bytes-at}
-use Rattle.dump_load.specs.Loading.{fits, answered, tableFrom, readAll}
-use mathlib.Core.Path.{_≡_, refl, _∙_, sym, ap}
-use borrow.Author.Tests.{le-ltb, lt-ltb, le-leb, lt-leb, eq-eqb, ne-eqb}
+use Rattle.dump_load.specs.Loading.{fits}
+use mathlib.Core.Path.{_∙_, sym}
 use native.Mathlib.Omega.{arith}
 use denote.Ref.{now}
 use borrow.Author.Needs.{needs}
 use Rattle.dump_load.proofs.load.load_dump.Statement.{statement}
 use Rattle.dump_load.proofs.load.load_dump.Tie as tie
-use Rattle.dump_load.proofs.load.load_dump.Reads as reads
-use Rattle.dump_load.proofs.load.load_dump.Lts as lts
 
 frames-fit-requires : tie.Need-frames-fit-requires
 frames-fit-requires c κs = search needs

@@ -1,14 +1,11 @@
 use Rattle.dump_load.proofs.Laws as laws
-use Rattle.dump_load.specs.Loading.{fits, answered, tableFrom, readAll}
-use mathlib.Core.Path.{_≡_, refl, _∙_, sym, ap}
-use borrow.Author.Tests.{le-ltb, lt-ltb, le-leb, lt-leb, eq-eqb, ne-eqb}
+use Rattle.dump_load.specs.Loading.{answered, readAll}
+use mathlib.Core.Path.{refl, _∙_}
 use native.Mathlib.Omega.{arith}
 use denote.Ref.{now}
 use borrow.Author.Needs.{needs}
 use Rattle.dump_load.proofs.load.read_dump.Statement.{statement}
 use Rattle.dump_load.proofs.load.read_dump.Tie as tie
-use Rattle.dump_load.proofs.load.read_dump.Reads as reads
-use Rattle.dump_load.proofs.load.read_dump.Lts as lts
 
 slice-aggregate-put-table : tie.Need-slice-aggregate-put-table
 slice-aggregate-put-table c = search needs

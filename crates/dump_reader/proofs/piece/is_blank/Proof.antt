@@ -16,15 +16,15 @@ returns c = laws.above-blanks _ (c .if1 .taken)
 
 returns-2 : tie.Need-returns-2
 unfolding endDeclaration endLast endChange step
-returns-2 c = simp (eq-eqb _ _ (c .if2 .taken), le-ltb _ _ (c .before .if1 .left), le-leb _ _ (c .before .if1 .left))
+returns-2 c = simp (eq-eqb _ _ (c .if2 .taken))
 
 returns-3 : tie.Need-returns-3
 unfolding endDeclaration endLast endChange step
-returns-3 c = simp (lt-ltb _ _ (c .if3 .taken), lt-leb _ _ (c .if3 .taken), ne-eqb _ _ (c .before .if2 .left), le-ltb _ _ (c .before .before .if1 .left), le-leb _ _ (c .before .before .if1 .left))
+returns-3 c = simp (lt-leb _ _ (c .if3 .taken), ne-eqb _ _ (c .before .if2 .left))
 
 returns-4 : tie.Need-returns-4
 unfolding endDeclaration endLast endChange step
-returns-4 c = simp (le-ltb _ _ (c .if3 .left), le-leb _ _ (c .if3 .left), ne-eqb _ _ (c .before .if2 .left), le-ltb _ _ (c .before .before .if1 .left), le-leb _ _ (c .before .before .if1 .left))
+returns-4 c = simp (le-leb _ _ (c .if3 .left), ne-eqb _ _ (c .before .if2 .left))
 
 pub is-blank-spec : {M : Type 1} → statement M
 is-blank-spec = tie.close (tie.spec returns returns-2 returns-3 returns-4)
