@@ -11,17 +11,6 @@
 #define MOST 65536
 #define EVERY_MARK 63
 
-/* the full check of six cycles, then the recheck with P made `p` in cycle t: what each leaves */
-static void edit(struct selvedgeon_config c, const uint32_t *trace, uint64_t t, uint32_t p)
-{
-    uint32_t edited[FRAME_WORDS * CYCLES];
-    struct record r = check(c, trace);
-    print_record(&r);
-    memcpy(edited, trace, sizeof edited);
-    edited[at(t, P)] = p;
-    recheck_record(c, edited, &r, t, t + 1);
-}
-
 static void edits(void)
 {
     printf("case A, cycle 2 made 2\n");

@@ -5,25 +5,13 @@
 #include <stdio.h>
 
 #include "checker.h"
+#include "failures.h"
 #include "frame.h"
 #include "print.h"
 #include "selvedgeon.h"
 
 #define CYCLES 65536
 #define MOST_ENTRIES 131070
-#define ROOM 9
-#define UNWRITTEN 9
-
-/* the list of a trace in a slice of `room` words: the refusal, how many entries it has, and all of the slice */
-static void list_failures(const char *name, struct selvedgeon_config c, const uint32_t *trace, size_t cycles, size_t room)
-{
-    uint32_t list[ROOM];
-    for (int i = 0; i < ROOM; i++)
-        list[i] = UNWRITTEN;
-    uint64_t answer = selvedgeon_failures(NUMBERS(c), trace, FRAME_WORDS * cycles, list, room);
-    printf("%s\nrefusal %" PRIu64 " count %" PRIu32, name, answer >> 32, (uint32_t)answer);
-    print_numbers(" list", list, room);
-}
 
 static void short_lists(void)
 {

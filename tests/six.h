@@ -4,6 +4,7 @@
 
 #include <inttypes.h>
 #include <stdio.h>
+#include <string.h>
 
 #include "checker.h"
 #include "frame.h"
@@ -29,8 +30,7 @@ static inline void print_record(const struct record *r)
 {
     print_numbers("rows", r->rows, CYCLES);
     printf("words");
-    for (int t = 0; t < CYCLES; t++)
-        printf(" %" PRIu64, r->words[t]);
+    print_spaced_words(r->words, CYCLES);
     printf("\n");
 }
 
@@ -70,6 +70,17 @@ static inline void recheck_record(struct selvedgeon_config c, const uint32_t *tr
 {
     recheck(c, trace, CYCLES, r->rows, r->words, a, b);
     print_record(r);
+}
+
+/* the full check of six cycles, then the recheck with P made `p` in cycle t: what each leaves */
+static inline void edit(struct selvedgeon_config c, const uint32_t *trace, uint64_t t, uint32_t p)
+{
+    uint32_t edited[FRAME_WORDS * CYCLES];
+    struct record r = check(c, trace);
+    print_record(&r);
+    memcpy(edited, trace, sizeof edited);
+    edited[at(t, P)] = p;
+    recheck_record(c, edited, &r, t, t + 1);
 }
 
 #endif

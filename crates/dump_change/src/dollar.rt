@@ -12,11 +12,11 @@ ghost use Rattle.dump_change.specs.Change.{dumps, inDump, onDollar, onCo
 pub fn value_of(b: u8) -> u8
     ensures { λ r. ⌜ r ≡ valueOf b ⌝ }
 {
-    if b == 48 {
-        return 0;
+    if b < 48 {
+        return 3;
     }
-    if b == 49 {
-        return 1;
+    if b < 50 {
+        return b - 48;
     }
     if b == 120 {
         return 2;

@@ -57,7 +57,7 @@ unfolding feed
 read-none a bs = refl
 
 -- what is refused stays
-feed-refused : (a : All) (bs : List ℕ) → refused (a .reader) ≡ true → feed a bs ≡ a
+pub feed-refused : (a : All) (bs : List ℕ) → refused (a .reader) ≡ true → feed a bs ≡ a
 unfolding feed step
 feed-refused a [] h = refl
 feed-refused a (b ∷ bs) h = rw h (feed-refused a bs h)

@@ -1,6 +1,8 @@
 // A reader of dumps, byte by byte: its state, a word that is begun, goes on and ends, the bytes of a piece, and the end of the text.
+mod changes;
 mod ending;
 mod piece;
+mod run;
 mod state;
 mod word;
 mod word_end;

@@ -3,6 +3,7 @@ use crate::word::Word;
 use dump_change::Wave;
 use dump_declare::Head;
 ghost use mathlib.Core.Path.{_≡_};
+ghost use Rattle.dump.specs.Text.{blank};
 ghost use Rattle.dump_reader.specs.Machine.{placeOf, refused, newLine, countLines};
 
 #[repr(C)]
@@ -16,6 +17,22 @@ pub struct Reader {
     pub word: Word,
     pub head: Head,
     pub wave: Wave,
+}
+
+// White space is 9 to 13 and 32.
+pub fn is_blank(b: u8) -> bool
+    ensures { λ r. ⌜ r ≡ blank b ⌝ }
+{
+    if b > 32 {
+        return false;
+    }
+    if b == 32 {
+        return true;
+    }
+    if b < 9 {
+        return false;
+    }
+    b <= 13
 }
 
 // The place of the grammar: of the declarations, and behind them of the changes.

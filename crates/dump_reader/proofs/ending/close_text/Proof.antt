@@ -30,7 +30,7 @@ unfinished-at-requires c κs = search needs
 
 returns-2 : tie.Need-returns-2
 unfolding endDeclaration endLast endChange step closing
-returns-2 c = λ digits. simp (c .unfinished-at .ensures, sym (c .before .before .is-complete .ensures) ∙ c .before .if1 .left)
+returns-2 c = λ digits. simp (c .unfinished-at .ensures, sym (c .before .before .is-complete .ensures) ∙ c .before .if1 .left, sym (c .before .before .is-complete .ensures))
 
 pub close-text-spec : {M : Type 1} → statement M
 close-text-spec =

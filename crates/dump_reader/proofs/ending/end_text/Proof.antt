@@ -15,7 +15,7 @@ is-refused-requires c κs = search needs
 
 returns : tie.Need-returns
 unfolding endDeclaration endLast endChange step finish
-returns c = simp (sym (c .before .is-refused .ensures) ∙ c .if1 .taken)
+returns c = simp (sym (c .before .is-refused .ensures) ∙ c .if1 .taken, sym (c .before .is-refused .ensures))
 
 count-lines-requires : tie.Need-count-lines-requires
 count-lines-requires c κs = search needs

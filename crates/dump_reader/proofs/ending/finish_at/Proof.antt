@@ -15,7 +15,7 @@ is-refused-requires c κs = search needs
 
 returns : tie.Need-returns
 unfolding endDeclaration endLast endChange step finishAt
-returns c = λ digits. simp (sym (c .before .is-refused .ensures) ∙ c .if1 .taken)
+returns c = λ digits. simp (sym (c .before .is-refused .ensures) ∙ c .if1 .taken, sym (c .before .is-refused .ensures))
 
 close-text-requires : tie.Need-close-text-requires
 close-text-requires c κs = search needs

@@ -19,14 +19,14 @@ returns-2 c = simp (ne-eqb _ _ (c .if2 .taken), eq-eqb _ _ (c .before .before .i
 
 returns-3 : tie.Need-returns-3
 unfolding countLines endDeclaration endLast endChange step
-returns-3 c = simp (eq-eqb _ _ (c .before .before .if2 .left), eq-eqb _ _ (c .before .before .before .before .if1 .left)) (omega arith)
+returns-3 c = simp (eq-eqb _ _ (c .if3 .taken), eq-eqb _ _ (c .before .before .if2 .left), eq-eqb _ _ (c .before .before .before .before .if1 .left)) (omega arith)
 
 sub-result : tie.Need-sub-result
 sub-result c = search needs
 
 returns-4 : tie.Need-returns-4
 unfolding countLines endDeclaration endLast endChange step
-returns-4 c = simp (eq-eqb _ _ (c .before .before .before .if2 .left), eq-eqb _ _ (c .before .before .before .before .before .if1 .left))
+returns-4 c = simp (ne-eqb _ _ (c .before .if3 .left), eq-eqb _ _ (c .before .before .before .if2 .left), eq-eqb _ _ (c .before .before .before .before .before .if1 .left))
 
 pub count-lines-spec : {M : Type 1} → statement M
 count-lines-spec = tie.close (tie.spec returns returns-2 returns-3 sub-result returns-4)

@@ -14,11 +14,11 @@ add-s c = search needs
 
 returns : tie.Need-returns
 unfolding newLine endDeclaration endLast endChange step
-returns c = simp (lt-ltb _ _ (c .before .if2 .taken), eq-eqb _ _ (c .before .before .before .if1 .taken))
+returns c = simp (lt-ltb _ _ (c .before .if2 .taken), lt-leb _ _ (c .before .if2 .taken), eq-eqb _ _ (c .before .before .before .if1 .taken))
 
 returns-2 : tie.Need-returns-2
 unfolding newLine endDeclaration endLast endChange step
-returns-2 c = simp (le-ltb _ _ (c .if2 .left), eq-eqb _ _ (c .before .before .if1 .taken))
+returns-2 c = simp (le-ltb _ _ (c .if2 .left), le-leb _ _ (c .if2 .left), eq-eqb _ _ (c .before .before .if1 .taken))
 
 returns-3 : tie.Need-returns-3
 unfolding newLine endDeclaration endLast endChange step

@@ -17,14 +17,14 @@ same-length c = search needs
 
 returns : tie.Need-returns
 unfolding continued continuedDigits endDeclaration endLast endChange step
-returns c = (simp (sym (c .before .before .add-vector .ensures .0), eq-eqb _ _ (c .before .before .before .before .if1 .taken)), simp (c .before .before .add-vector .ensures .1, eq-eqb _ _ (c .before .before .before .before .if1 .taken)))
+returns c = (simp (sym (c .before .before .add-vector .ensures .0), c .before .before .add-vector .ensures .1, eq-eqb _ _ (c .before .before .before .before .if1 .taken)), simp (sym (c .before .before .add-vector .ensures .0), c .before .before .add-vector .ensures .1, eq-eqb _ _ (c .before .before .before .before .if1 .taken)))
 
 add-digit-requires : tie.Need-add-digit-requires
 add-digit-requires c κs = search needs
 
 returns-2 : tie.Need-returns-2
 unfolding continued continuedDigits endDeclaration endLast endChange step
-returns-2 c = (simp (c .add-digit .ensures, eq-eqb _ _ (c .before .before .if2 .taken), ne-eqb _ _ (c .before .before .before .before .if1 .left)), simp (ne-eqb _ _ (c .before .before .before .before .if1 .left)))
+returns-2 c = (simp (c .add-digit .ensures, eq-eqb _ _ (c .before .before .if2 .taken), ne-eqb _ _ (c .before .before .before .before .if1 .left)), simp (c .add-digit .ensures, eq-eqb _ _ (c .before .before .if2 .taken), ne-eqb _ _ (c .before .before .before .before .if1 .left)))
 
 add-text-requires : tie.Need-add-text-requires
 add-text-requires c κs = search needs
@@ -34,11 +34,11 @@ add-scan-requires c κs = search needs
 
 returns-3 : tie.Need-returns-3
 unfolding continued continuedDigits endDeclaration endLast endChange step
-returns-3 c = (simp (c .add-scan .ensures, eq-eqb _ _ (c .before .before .if3 .taken), sym (c .before .before .before .before .add-text .ensures), ne-eqb _ _ (c .before .before .before .before .before .before .if2 .left), ne-eqb _ _ (c .before .before .before .before .before .before .before .before .if1 .left)), simp (ne-eqb _ _ (c .before .before .before .before .before .before .if2 .left), ne-eqb _ _ (c .before .before .before .before .before .before .before .before .if1 .left)))
+returns-3 c = (simp (c .add-scan .ensures, eq-eqb _ _ (c .before .before .if3 .taken), sym (c .before .before .before .before .add-text .ensures), ne-eqb _ _ (c .before .before .before .before .before .before .if2 .left), ne-eqb _ _ (c .before .before .before .before .before .before .before .before .if1 .left)), simp (c .add-scan .ensures, eq-eqb _ _ (c .before .before .if3 .taken), sym (c .before .before .before .before .add-text .ensures), ne-eqb _ _ (c .before .before .before .before .before .before .if2 .left), ne-eqb _ _ (c .before .before .before .before .before .before .before .before .if1 .left)))
 
 returns-4 : tie.Need-returns-4
 unfolding continued continuedDigits endDeclaration endLast endChange step
-returns-4 c = (simp (ne-eqb _ _ (c .if3 .left), sym (c .before .before .add-text .ensures), ne-eqb _ _ (c .before .before .before .before .if2 .left), ne-eqb _ _ (c .before .before .before .before .before .before .if1 .left)), simp (ne-eqb _ _ (c .before .before .before .before .before .before .if1 .left)))
+returns-4 c = (simp (ne-eqb _ _ (c .if3 .left), sym (c .before .before .add-text .ensures), ne-eqb _ _ (c .before .before .before .before .if2 .left), ne-eqb _ _ (c .before .before .before .before .before .before .if1 .left)), simp (ne-eqb _ _ (c .if3 .left), sym (c .before .before .add-text .ensures), ne-eqb _ _ (c .before .before .before .before .if2 .left), ne-eqb _ _ (c .before .before .before .before .before .before .if1 .left)))
 
 pub add-byte-spec : {M : Type 1} → statement M
 add-byte-spec =

@@ -23,14 +23,14 @@ same-length c = search needs
 
 returns : tie.Need-returns
 unfolding vectorAdd vectorDigits endDeclaration endLast endChange step
-returns c = (simp (c .add-value .ensures, lt-ltb _ _ (c .before .if1 .taken), sym (c .before .before .before .value-of .ensures)), simp (lt-ltb _ _ (c .before .if1 .taken), sym (c .before .before .before .value-of .ensures)))
+returns c = (simp (c .add-value .ensures, lt-ltb _ _ (c .before .if1 .taken), lt-leb _ _ (c .before .if1 .taken), sym (c .before .before .before .value-of .ensures)), simp (c .add-value .ensures, lt-ltb _ _ (c .before .if1 .taken), lt-leb _ _ (c .before .if1 .taken), sym (c .before .before .before .value-of .ensures)))
 
 add-value-requires-2 : tie.Need-add-value-requires-2
 add-value-requires-2 c κs = search needs
 
 returns-2 : tie.Need-returns-2
 unfolding vectorAdd vectorDigits endDeclaration endLast endChange step
-returns-2 c = (simp (c .add-value2 .ensures, le-ltb _ _ (c .before .if1 .left), sym (c .before .before .before .value-of .ensures)), simp (le-ltb _ _ (c .before .if1 .left), sym (c .before .before .before .value-of .ensures)))
+returns-2 c = (simp (c .add-value2 .ensures, le-ltb _ _ (c .before .if1 .left), le-leb _ _ (c .before .if1 .left), sym (c .before .before .before .value-of .ensures)), simp (c .add-value2 .ensures, le-ltb _ _ (c .before .if1 .left), le-leb _ _ (c .before .if1 .left), sym (c .before .before .before .value-of .ensures)))
 
 pub add-vector-spec : {M : Type 1} → statement M
 add-vector-spec =

@@ -31,7 +31,7 @@ same-length-2 c = search needs
 
 returns-2 : tie.Need-returns-2
 unfolding lastPlace lastStore endDeclaration endLast endChange step
-returns-2 c = (simp (sym (c .before .last-place .ensures)), simp (ne-eqb _ _ (c .if1 .left), sym (c .before .last-place .ensures)))
+returns-2 c = (simp (ne-eqb _ _ (c .if1 .left), sym (c .before .last-place .ensures)), simp (ne-eqb _ _ (c .if1 .left), sym (c .before .last-place .ensures)))
 
 pub connect-last-spec : {M : Type 1} → statement M
 connect-last-spec =

@@ -26,7 +26,7 @@ same-length-2 c = search needs
 
 returns : tie.Need-returns
 unfolding endDeclaration endLast endChange step
-returns c = (simp (c .behind .ensures, sym (c .before .before .before .before .before .change-word .ensures .0), sym (c .before .before .before .before .before .before .before .before .bounded-count .ensures .0)), simp (c .before .before .before .before .before .change-word .ensures .1, c .before .before .before .before .before .change-word .ensures .2, sym (c .before .before .before .before .before .before .before .before .bounded-count .ensures .0)), simp (c .before .before .before .before .before .change-word .ensures .1, c .before .before .before .before .before .change-word .ensures .2))
+returns c = (simp (c .behind .ensures, sym (c .before .before .before .before .before .change-word .ensures .0), c .before .before .before .before .before .change-word .ensures .1, c .before .before .before .before .before .change-word .ensures .2, sym (c .before .before .before .before .before .before .before .before .bounded-count .ensures .0)), simp (c .behind .ensures, sym (c .before .before .before .before .before .change-word .ensures .0), c .before .before .before .before .before .change-word .ensures .1, c .before .before .before .before .before .change-word .ensures .2, sym (c .before .before .before .before .before .before .before .before .bounded-count .ensures .0)), simp (c .behind .ensures, sym (c .before .before .before .before .before .change-word .ensures .0), c .before .before .before .before .before .change-word .ensures .1, c .before .before .before .before .before .change-word .ensures .2, sym (c .before .before .before .before .before .before .before .before .bounded-count .ensures .0)))
 
 pub end-change-spec : {M : Type 1} → statement M
 end-change-spec =

@@ -20,7 +20,7 @@ same-length c = search needs
 
 returns : tie.Need-returns
 unfolding endDeclaration endLast endChange step
-returns c = (simp (c .behind .ensures, sym (c .before .before .before .declaration .ensures .0)), simp (c .before .before .before .declaration .ensures .1))
+returns c = (simp (c .behind .ensures, sym (c .before .before .before .declaration .ensures .0), c .before .before .before .declaration .ensures .1), simp (c .behind .ensures, sym (c .before .before .before .declaration .ensures .0), c .before .before .before .declaration .ensures .1))
 
 pub end-declaration-spec : {M : Type 1} → statement M
 end-declaration-spec =

@@ -23,7 +23,7 @@ same-length c = search needs
 
 returns : tie.Need-returns
 unfolding lastPlace lastStore endDeclaration endLast endChange step
-returns c = (simp (c .behind .ensures, sym (c .before .at-place .ensures), sym (c .before .before .before .before .connect-last .ensures .0)), simp (sym (c .before .before .before .before .connect-last .ensures .0), c .before .before .before .before .connect-last .ensures .1))
+returns c = (simp (c .behind .ensures, sym (c .before .at-place .ensures), sym (c .before .before .before .before .connect-last .ensures .0), c .before .before .before .before .connect-last .ensures .1), simp (c .behind .ensures, sym (c .before .at-place .ensures), sym (c .before .before .before .before .connect-last .ensures .0), c .before .before .before .before .connect-last .ensures .1))
 
 pub end-last-spec : {M : Type 1} → statement M
 end-last-spec =

@@ -20,15 +20,15 @@ table-good-requires c κs = search needs
 
 returns : tie.Need-returns
 unfolding lastPlace endDeclaration endLast endChange step
-returns c = simp (sym (c .before .table-good .ensures) ∙ c .if2 .taken, sym (c .before .before .bounded-count .ensures .0), sym (c .before .before .before .before .text-is .ensures) ∙ c .before .before .before .if1 .taken)
+returns c = simp (sym (c .before .table-good .ensures) ∙ c .if2 .taken, sym (c .before .table-good .ensures), sym (c .before .before .bounded-count .ensures .0), sym (c .before .before .before .before .text-is .ensures) ∙ c .before .before .before .if1 .taken, sym (c .before .before .before .before .text-is .ensures))
 
 returns-2 : tie.Need-returns-2
 unfolding lastPlace endDeclaration endLast endChange step
-returns-2 c = simp (sym (c .before .table-good .ensures) ∙ c .if2 .left, sym (c .before .before .bounded-count .ensures .0), sym (c .before .before .before .before .text-is .ensures) ∙ c .before .before .before .if1 .taken)
+returns-2 c = simp (sym (c .before .table-good .ensures) ∙ c .if2 .left, sym (c .before .table-good .ensures), sym (c .before .before .bounded-count .ensures .0), sym (c .before .before .before .before .text-is .ensures) ∙ c .before .before .before .if1 .taken, sym (c .before .before .before .before .text-is .ensures))
 
 returns-3 : tie.Need-returns-3
 unfolding lastPlace endDeclaration endLast endChange step
-returns-3 c = simp (sym (c .before .text-is .ensures) ∙ c .if1 .left)
+returns-3 c = simp (sym (c .before .text-is .ensures) ∙ c .if1 .left, sym (c .before .text-is .ensures))
 
 pub last-place-spec : {M : Type 1} → statement M
 last-place-spec =

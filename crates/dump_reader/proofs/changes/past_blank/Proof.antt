@@ -1,0 +1,29 @@
+use Rattle.dump_reader.specs.Runs.{openWord, pastBlank, begunAs}
+use Rattle.dump_reader.specs.Machine.{nameScan, rangeScan, begunChange, begun, vectorAdd, vectorDigits, continued, continuedDigits, placeOf, refused, newLine, countLines, lastPlace, lastStore, endDeclaration, endLast, endChange, endWord, addByte, closedWord, byteStep, step, feed, complete, unfinished, closing, finishAt, finish}
+use mathlib.Core.Path.{_≡_, refl, _∙_, sym, ap}
+use borrow.Author.Tests.{le-ltb, lt-ltb, le-leb, lt-leb, eq-eqb, ne-eqb}
+use native.Mathlib.Omega.{arith}
+use denote.Ref.{now}
+use borrow.Author.Needs.{needs}
+use Rattle.dump_reader.proofs.changes.past_blank.Statement.{statement}
+use Rattle.dump_reader.proofs.changes.past_blank.Tie as tie
+use Rattle.dump_reader.proofs.changes.past_blank.Reads as reads
+use Rattle.dump_reader.proofs.changes.past_blank.Lts as lts
+
+add-r : tie.Need-add-r
+add-r c = search needs
+
+returns : tie.Need-returns
+unfolding pastBlank endDeclaration endLast endChange step
+returns c = simp (lt-ltb _ _ (c .before .if2 .taken), lt-leb _ _ (c .before .if2 .taken), eq-eqb _ _ (c .before .before .before .if1 .taken))
+
+returns-2 : tie.Need-returns-2
+unfolding pastBlank endDeclaration endLast endChange step
+returns-2 c = simp (le-ltb _ _ (c .if2 .left), le-leb _ _ (c .if2 .left), eq-eqb _ _ (c .before .before .if1 .taken))
+
+returns-3 : tie.Need-returns-3
+unfolding pastBlank endDeclaration endLast endChange step
+returns-3 c = simp (ne-eqb _ _ (c .if1 .left))
+
+pub past-blank-spec : {M : Type 1} → statement M
+past-blank-spec = tie.close (tie.spec add-r returns returns-2 returns-3)
