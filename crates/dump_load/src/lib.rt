@@ -4,4 +4,7 @@ mod begin;
 mod load;
 
 pub use answer::Loaded;
+pub use answer::answer_of;
+pub use begin::first_reader;
+pub use begin::put_table;
 pub use load::load_dump;

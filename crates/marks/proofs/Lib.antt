@@ -1,0 +1,2 @@
+-- Laws that the proofs of `marks` cite.
+pub mod Laws

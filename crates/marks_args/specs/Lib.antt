@@ -1,0 +1,2 @@
+-- What the contracts of `marks_args` cite.
+pub mod Wires

@@ -1,0 +1,2 @@
+-- Laws that the proofs of `marks_dump` cite.
+pub mod Laws

@@ -1,0 +1,2 @@
+-- What the contracts of `marks_dump` cite.
+pub mod Taken
