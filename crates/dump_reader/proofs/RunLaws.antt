@@ -16,7 +16,7 @@ use Rattle.dump_words.specs.declared.number.Number.{Number}
 use Rattle.dump_words.specs.Gather.{noText, noNumber, textAdd, numberAdd}
 use Rattle.dump_find.specs.Find.{bounded, lookup}
 use Rattle.dump_values.specs.Values.{bitsChanged}
-use Rattle.dump_change.specs.Change.{wordWave, wordStore, wordFrames, changeWave, changeStore, changeFrames, textWave, textStore, onScalar, scalarTest, scalarStore, scalarChange}
+use Rattle.dump_change.specs.Change.{wordWave, wordStore, wordFrames, changeWave, changeStore, changeFrames, textWave, textStore, onScalar, scalarTest, scalarStore, scalarChange, onVector, codeWave, codeStore, onVectorCode, vectorTest, vectorStore, vectorChange}
 use Rattle.dump_declare.specs.declared.head.Head.{Head}
 use Rattle.dump_change.specs.declared.wave.Wave.{Wave}
 use Rattle.dump_change.specs.Change as C
@@ -24,7 +24,7 @@ use Rattle.dump_reader.specs.declared.word.Word.{Word}
 use Rattle.dump_reader.specs.declared.state.Reader.{Reader}
 use Rattle.dump_reader.specs.declared.changes.Changes.{Changes}
 use Rattle.dump_reader.specs.Machine.{All, noWord, numberWord, vectorWord, textWord, withWord, placeOf, refused, begun, vectorAdd, vectorDigits, continued, continuedDigits, newLine, endChange, endWord, closedWord, addByte, lined, byteStep, step, feed}
-use Rattle.dump_reader.specs.Runs.{textOf, vectorOf, put, Gathers, openWord, amid, Goes, pastBlank, begunAs, Due, Scalar}
+use Rattle.dump_reader.specs.Runs.{textOf, vectorOf, put, Gathers, openWord, amid, Goes, pastBlank, begunAs, Due, Scalar, vectored, Vectored}
 use Rattle.dump_reader.proofs.Laws.{above-blanks, feed-refused}
 
 stepped : (a : All) (b : ℕ) → refused (a .reader) ≡ false → step a b ≡ byteStep a b
@@ -154,6 +154,53 @@ scalar-made t n store store′ i v ev hv l2 l9 pl ei hi w1 w2 es w d f p = (
   sym (simp (eq-eqb (w .place) 20 p)),
 )
 
+-- A VECTOR that is good
+both-kept : (w : Wave) → w .place ≡ 20 → w .count ≡ 0 → w ≡ C.cleared w
+both-kept w p z =
+    ap (λ (x : ℕ). record { place = x; identifier = w .identifier; dumping = w .dumping; count = w .count; stamped = w .stamped; stamp = w .stamp; frames = w .frames }) p
+    ∙ ap (λ (x : ℕ). record { place = 20; identifier = w .identifier; dumping = w .dumping; count = x; stamped = w .stamped; stamp = w .stamp; frames = w .frames }) z
+
+pub vector-made : (t : Text) (count n : ℕ) (store digits store′ : List ℕ) (i : ℕ) → (count ≡ 0 → ⊥) → count ≤ 4096 → t .length ≤ 8 → t .plain ≡ 1 → C.isEnd t ≡ false → i ≡ lookup store n (t .low) → i < n → (getD store (2048 + i) 0 ≡ 2 → ⊥) → count ≤ getD store (1024 + i) 0 → store′ ≡ bitsChanged store digits count (t .low) i → Vectored t count n store digits store′
+unfolding wordWave wordStore changeWave onVector codeWave codeStore onVectorCode vectorTest vectorStore vectorChange
+vector-made t count n store digits store′ i c0 cm l8 pl en ei hi w2 cw es w f p z = (
+  sym (simp (eq-eqb (w .place) 20 p, ne-eqb count 0 c0)),
+  simp (le-ltb 8 (t .length) l8, en, ← ei, eq-eqb (t .plain) 1 pl, lt-ltb i n hi, ne-eqb (getD store (2048 + i) 0) 2 w2, le-ltb (getD store (1024 + i) 0) count cw) (both-kept w p z),
+  rw es (sym (simp (le-ltb 8 (t .length) l8, en, ← ei, eq-eqb (t .plain) 1 pl, lt-ltb i n hi, ne-eqb (getD store (2048 + i) 0) 2 w2, le-ltb (getD store (1024 + i) 0) count cw, ne-eqb count 0 c0, le-ltb 4096 count cm))),
+)
+
+-- of the two words of a vector, the first leaves the store, and both the frames
+vector-store : (w : Wave) (n : ℕ) (s d f : List ℕ) → w .place ≡ 20 → s ≡ C.wordStore w 4 noText noNumber n s d f
+unfolding wordStore changeStore
+vector-store w n s d f p = sym (simp (eq-eqb (w .place) 20 p))
+
+vector-frames : (w : Wave) (s f : List ℕ) → w .place ≡ 20 → f ≡ C.wordFrames w 4 noNumber s f
+unfolding wordFrames changeFrames
+vector-frames w s f p = sym (simp (eq-eqb (w .place) 20 p))
+
+code-frames : (w : Wave) (count : ℕ) (s f : List ℕ) → f ≡ C.wordFrames (vectored w count) 1 noNumber s f
+unfolding wordFrames
+code-frames w count s f = refl
+
+code-begun : (b : ℕ) → begun 21 b ≡ begunAs 1 b
+unfolding begun begunAs
+code-begun b = refl
+
+past-held-by : (q : Bool) (c : Changes) (k b : ℕ) → eqb b 10 ≡ q → pastBlank c k b .held ≡ c .held
+unfolding pastBlank
+past-held-by true c k b e = simp e
+past-held-by false c k b e = simp e
+
+past-wave-by : (q : Bool) (c : Changes) (k b : ℕ) → eqb b 10 ≡ q → pastBlank c k b .wave ≡ c .wave
+unfolding pastBlank
+past-wave-by true c k b e = simp e
+past-wave-by false c k b e = simp e
+
+-- behind a word, what the wave was before it is forgotten
+behind-any : (q : Bool) (c : Changes) (v w u : Wave) (k b : ℕ) → eqb b 10 ≡ q → behindWord (pastBlank (behindWord c v) k b) u ≡ behindWord (pastBlank (behindWord c w) k b) u
+unfolding pastBlank
+behind-any true c v w u k b e = simp e
+behind-any false c v w u k b e = simp e
+
 -- WHOLE WORDS
 pub other-class : (k b : ℕ) → (k ≡ 2 → ⊥) → (k ≡ 4 → ⊥) → begunAs k b ≡ begunAs 1 b
 unfolding begunAs
@@ -200,6 +247,50 @@ module _ (c : Changes) (bs : List ℕ) (due : Due c bs) (n : ℕ) (s : List ℕ)
     pub vector-whole : (k : ℕ) (d′ : List ℕ) → begun (c .wave .place) (getD bs (c .at) 0) ≡ begunAs 4 (getD bs (c .at) 0) → Gathers bs (vectorOf 0) (c .at + 1) d (vectorOf k) j d′ → v ≡ C.wordWave (c .wave) 4 noText noNumber k 0 n s f → s′ ≡ C.wordStore (c .wave) 4 noText noNumber n s d′ f → f′ ≡ C.wordFrames (c .wave) 4 noNumber s f → (c .at ≤ r .at) × (r .at ≤ length bs) × Goes n bs c s d f r s′ d′ f′
     vector-whole k d′ e g ev es ef = by-past n bs c r (behindWord c v) (j + 1) (getD bs j 0) s d f s′ d′ f′ er (omega arith) (omega arith) (whole c bs due n s d d′ f 4 j (vectorOf k) e (vector-from bs (getD bs (c .at) 0) (c .at + 1) j k d d′ g) v s′ f′ inside space (λ z. omega (arith, z)) ev es ef)
 
+pub by-past-frames : (n : ℕ) (bs : List ℕ) (c r y : Changes) (k b : ℕ) (s d s′ d′ : List ℕ) → r ≡ pastBlank y k b → c .at ≤ k → k ≤ length bs → ((f : List ℕ) → Goes n bs c s d f (pastBlank y k b) s′ d′ f) → (c .at ≤ r .at) × (r .at ≤ length bs) × ((f : List ℕ) → Goes n bs c s d f r s′ d′ f)
+by-past-frames n bs c r y k b s d s′ d′ e l m g = rw e (rw (past-at y k b) l, rw (past-at y k b) m, g)
+
+-- a vector and its code
+module _ (c : Changes) (bs : List ℕ) (due : Due c bs) (n : ℕ) (s d d′ : List ℕ) (count j k : ℕ) (at20 : c .wave .place ≡ 20) (none : c .wave .count ≡ 0) (inside : j < length bs) (after : c .at + 1 ≤ j) (space : blank (getD bs j 0) ≡ true) (inside₂ : j + 1 < length bs) (full₂ : blank (getD bs (j + 1) 0) ≡ false) (inside₃ : k < length bs) (after₃ : j + 1 + 1 ≤ k) (space₃ : blank (getD bs k 0) ≡ true) where
+  abbrev between : Changes
+  between = pastBlank (behindWord c (vectored (c .wave) count)) (j + 1) (getD bs j 0)
+
+  between-at : between .at ≡ j + 1
+  between-at = past-at (behindWord c (vectored (c .wave) count)) (j + 1) (getD bs j 0)
+
+  between-wave : between .wave ≡ vectored (c .wave) count
+  between-wave = past-wave-by (eqb (getD bs j 0) 10) (behindWord c (vectored (c .wave) count)) (j + 1) (getD bs j 0) refl
+
+  between-due : Due between bs
+  between-due = record { inside = rw between-at inside₂; closed = past-held-by (eqb (getD bs j 0) 10) (behindWord c (vectored (c .wave) count)) (j + 1) (getD bs j 0) refl; going = rw between-wave (omega arith); full = rw between-at full₂ }
+
+  module _ (t : Text) (s′ : List ℕ) (made : Vectored t count n s d′ s′) where
+    vector-then : (f : List ℕ) → begun (c .wave .place) (getD bs (c .at) 0) ≡ begunAs 4 (getD bs (c .at) 0) → Gathers bs (vectorOf 0) (c .at + 1) d (vectorOf count) j d′ → Goes n bs c s d f between s d′ f
+    vector-then f e g = whole c bs due n s d d′ f 4 j (vectorOf count) e (vector-from bs (getD bs (c .at) 0) (c .at + 1) j count d d′ g) (vectored (c .wave) count) s f inside space (λ z. omega (arith, z)) (made (c .wave) f at20 none .0) (vector-store (c .wave) n s d′ f at20) (vector-frames (c .wave) s f at20)
+
+    code-then : (f : List ℕ) (first : Text) → first ≡ textAdd noText (getD bs (j + 1) 0) → Gathers bs (textOf first) (j + 1 + 1) d′ (textOf t) k d′ → Goes n bs between s d′ f (pastBlank (behindWord between (c .wave)) (k + 1) (getD bs k 0)) s′ d′ f
+    code-then f first x g = whole between bs between-due n s d′ d′ f 1 k (textOf t) (rw between-wave (code-begun (getD bs (between .at) 0))) (rw between-at (text-from bs (getD bs (j + 1) 0) (j + 1 + 1) k first t d′ x g)) (c .wave) s′ f inside₃ space₃ (λ z. omega (arith, z)) (rw between-wave (made (c .wave) f at20 none .1)) (rw between-wave (made (c .wave) f at20 none .2)) (rw between-wave (code-frames (c .wave) count s f))
+
+    pub vectored-whole : (first : Text) (m r : Changes) → begun (c .wave .place) (getD bs (c .at) 0) ≡ begunAs 4 (getD bs (c .at) 0) → Gathers bs (vectorOf 0) (c .at + 1) d (vectorOf count) j d′ → first ≡ textAdd noText (getD bs (j + 1) 0) → ((d : List ℕ) → Gathers bs (textOf first) (j + 1 + 1) d (textOf t) k d) → m ≡ pastBlank (behindWord c (c .wave)) (j + 1) (getD bs j 0) → r ≡ pastBlank (behindWord m (c .wave)) (k + 1) (getD bs k 0) → (c .at ≤ r .at) × (r .at ≤ length bs) × ((f : List ℕ) → Goes n bs c s d f r s′ d′ f)
+    vectored-whole first m r e g x g₂ em er =
+        by-past-frames n bs c r (behindWord between (c .wave)) (k + 1) (getD bs k 0) s d s′ d′
+        (er ∙ ap (λ (y : Changes). pastBlank y (k + 1) (getD bs k 0)) (ap (λ (y : Changes). behindWord y (c .wave)) em ∙ behind-any (eqb (getD bs j 0) 10) c (c .wave) (vectored (c .wave) count) (c .wave) (j + 1) (getD bs j 0) refl))
+        (omega arith) (omega arith)
+        (λ f h p q. vector-then f e g h p q ∙ code-then f first x (g₂ d′) h p q)
+
+vector-due : (w : Wave) (count n : ℕ) (s f : List ℕ) → w .place ≡ 20 → (count ≡ 0 → ⊥) → vectored w count ≡ C.wordWave w 4 noText noNumber count 0 n s f
+unfolding wordWave changeWave onVector
+vector-due w count n s f p c0 = sym (simp (eq-eqb (w .place) 20 p, ne-eqb count 0 c0))
+
+-- a vector alone
+pub vector-passed : (c : Changes) (bs : List ℕ) (due : Due c bs) (n : ℕ) (s d d′ : List ℕ) (count j : ℕ) → c .wave .place ≡ 20 → (count ≡ 0 → ⊥) → j < length bs → c .at + 1 ≤ j → blank (getD bs j 0) ≡ true → (r : Changes) → begun (c .wave .place) (getD bs (c .at) 0) ≡ begunAs 4 (getD bs (c .at) 0) → Gathers bs (vectorOf 0) (c .at + 1) d (vectorOf count) j d′ → r ≡ pastBlank (behindWord c (vectored (c .wave) count)) (j + 1) (getD bs j 0) → (c .at ≤ r .at) × (r .at ≤ length bs) × ((f : List ℕ) → Goes n bs c s d f r s d′ f)
+vector-passed c bs due n s d d′ count j at20 c0 inside after space r e g er =
+    by-past-frames n bs c r (behindWord c (vectored (c .wave) count)) (j + 1) (getD bs j 0) s d s d′ er (omega arith) (omega arith)
+    (λ f. whole c bs due n s d d′ f 4 j (vectorOf count) e (vector-from bs (getD bs (c .at) 0) (c .at + 1) j count d d′ g) (vectored (c .wave) count) s f inside space (λ z. omega (arith, z)) (vector-due (c .wave) count n s f at20 c0) (vector-store (c .wave) n s d′ f at20) (vector-frames (c .wave) s f at20))
+
+pub for-digits : (n : ℕ) (bs : List ℕ) (c r : Changes) (s s′ d : List ℕ) → (c .at ≤ r .at) × (r .at ≤ length bs) × ((d f : List ℕ) → Goes n bs c s d f r s′ d f) → (c .at ≤ r .at) × (r .at ≤ length bs) × ((f : List ℕ) → Goes n bs c s d f r s′ d f)
+for-digits n bs c r s s′ d x = (x .0, x .1, x .2 d)
+
 pub vector-open : (c : Changes) (bs : List ℕ) (due : Due c bs) (n : ℕ) (s d d′ f : List ℕ) (k j : ℕ) → begun (c .wave .place) (getD bs (c .at) 0) ≡ begunAs 4 (getD bs (c .at) 0) → Gathers bs (vectorOf 0) (c .at + 1) d (vectorOf k) j d′ → Goes n bs c s d f (record { at = j; line = c .line; started = c .started; shown = c .shown; held = k + 1; wave = c .wave }) s d′ f
 vector-open c bs due n s d d′ f k j e g h p q = word-run h c s d f bs due p 4 j (vectorOf k) d′ e (vector-from bs (getD bs (c .at) 0) (c .at + 1) j k d d′ g) ∙ ap (λ (w : Word). feed (put (amid h c s d f) w d′) (drop j bs)) (held-word k)
 
@@ -211,6 +302,9 @@ at-change p k b e h x y = rw e (h ∙ other-class k b x y)
 
 pub as-class : (p k m b : ℕ) → begun p b ≡ begunAs k b → k ≡ m → begun p b ≡ begunAs m b
 as-class p k m b h e = rw e at h
+
+pub at-vector : (p k b : ℕ) → p ≡ 20 → begun 20 b ≡ begunAs k b → k ≡ 4 → begun p b ≡ begunAs 4 b
+at-vector p k b e h x = rw e (as-class 20 k 4 b h x)
 
 -- THE PIECE
 pub carried : (r : Reader) (s d f bs : List ℕ) (i n : ℕ) → i < length bs → refused r ≡ false → blank (getD bs i 0) ≡ false → r .word .class ≡ 0 → r .head .place ≡ 20 → n ≡ bounded (r .head .codes) → (c : Changes) (s′ d′ f′ : List ℕ) (w : Word) → w ≡ openWord (c .held) → Goes n bs (record { at = i; line = r .line; started = r .started; shown = r .shown; held = 0; wave = r .wave }) s d f c s′ d′ f′ → feed (fourOf r s d f) (drop i bs) ≡ feed (record { reader = record { line = c .line; started = c .started; shown = c .shown; word = w; head = r .head; wave = c .wave }; store = s′; digits = d′; frames = f′ }) (drop (c .at) bs)

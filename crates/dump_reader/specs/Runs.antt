@@ -61,3 +61,11 @@ pub record Due (c : Changes) (bs : List ℕ) : Type 0 where
 -- a good scalar changes the store only
 abbrev pub Scalar : Text → ℕ → List ℕ → List ℕ → Type 0
 Scalar t n store store′ = (w : Wave) (digits frames : List ℕ) → w .place ≡ 20 → (w ≡ C.wordWave w 1 t noNumber 0 0 n store frames) × (store′ ≡ C.wordStore w 1 t noNumber n store digits frames) × (frames ≡ C.wordFrames w 1 noNumber store frames)
+
+-- a vector of `count` digits, whose code is due
+abbrev pub vectored : Wave → ℕ → Wave
+vectored w count = record { place = 21; identifier = w .identifier; dumping = w .dumping; count = count; stamped = w .stamped; stamp = w .stamp; frames = w .frames }
+
+-- a good vector, with its code, changes the store only
+abbrev pub Vectored : Text → ℕ → ℕ → List ℕ → List ℕ → List ℕ → Type 0
+Vectored t count n store digits store′ = (w : Wave) (frames : List ℕ) → w .place ≡ 20 → w .count ≡ 0 → (vectored w count ≡ C.wordWave w 4 noText noNumber count 0 n store frames) × (w ≡ C.wordWave (vectored w count) 1 t noNumber 0 0 n store frames) × (store′ ≡ C.wordStore (vectored w count) 1 t noNumber n store digits frames)

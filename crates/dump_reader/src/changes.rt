@@ -11,13 +11,14 @@ use dump_values::change_bits;
 use dump_words::Number;
 use dump_words::Text;
 use dump_words::add_text;
+use dump_words::text_is;
 ghost use mathlib.Core.Bool.{true, false};
 ghost use mathlib.Core.List.{List};
 ghost use mathlib.Core.Path.{_≡_};
 ghost use Prim.Native.Nat.{ℕ, _≤_, _<_};
 ghost use lib.ListN.{length, getD};
 ghost use Rattle.dump_reader.specs.Machine.{begun};
-ghost use Rattle.dump_reader.specs.Runs.{Goes, Due, Scalar, pastBlank, begunAs};
+ghost use Rattle.dump_reader.specs.Runs.{Goes, Due, Scalar, Vectored, pastBlank, begunAs};
 
 #[repr(C)]
 pub struct Changes {
@@ -103,10 +104,143 @@ fn scalar_good(t: Text, n: usize, store: &mut [u64]) -> bool
     true
 }
 
-// White space, or a scalar that is good, where a change is due.
-fn scalar_one(c: Changes, n: usize, bytes: &[u8], store: &mut [u64]) -> Changes
-    requires { ⌜ (length (now store) ≡ 8468) × (n ≤ 1024) × (c .at < length (now bytes)) ⌝ }
-    ensures { λ r. ⌜ (c .at ≤ r .at) × (r .at ≤ length (now (bytes .entry))) × ((d f : List ℕ) → Goes n (now (bytes .entry)) c (now (store .entry)) d f r (now (store .exit)) d f) ⌝ }
+// The vector of `count` digits is changed where its code t is good; else nothing is done.
+fn vector_good(t: Text, count: usize, n: usize, store: &mut [u64], digits: &[u8]) -> bool
+    requires { ⌜ (length (now store) ≡ 8468) × (n ≤ 1024) × (length (now digits) ≡ 4096) × (count ≤ 4096) ⌝ }
+    ensures { λ r. ⌜ (r ≡ true → Vectored t count n (now (store .entry)) (now (digits .entry)) (now (store .exit))) × (r ≡ false → now (store .exit) ≡ now (store .entry)) ⌝ }
+{
+    if count == 0 {
+        return false;
+    }
+    if t.length > 8 {
+        return false;
+    }
+    if t.plain != 1 {
+        return false;
+    }
+    if text_is(t, 4, 1684956452, 0) {
+        return false;
+    }
+    let i = find(store, n, t.low);
+    if i >= n {
+        return false;
+    }
+    if store[2048 + i] == 2 {
+        return false;
+    }
+    if count as u64 > store[1024 + i] {
+        return false;
+    }
+    change_bits(store, digits, count, t.low, i);
+    true
+}
+
+// A vector and its code, where both are good and end in the piece, or the vector alone where more white space is behind it; else it stays open: its
+// digits are not read again.
+fn vector_one(c: Changes, n: usize, bytes: &[u8], store: &mut [u64], digits: &mut [u8]) -> Changes
+    requires { ⌜ (length (now store) ≡ 8468) × (n ≤ 1024) × (length (now digits) ≡ 4096) × Due c (now bytes) × (begun (c .wave .place) (getD (now bytes) (c .at) 0) ≡ begunAs 4 (getD (now bytes) (c .at) 0)) × (c .wave .place ≡ 20) ⌝ }
+    ensures { λ r. ⌜ (c .at ≤ r .at) × (r .at ≤ length (now (bytes .entry))) × ((f : List ℕ) → Goes n (now (bytes .entry)) c (now (store .entry)) (now (digits .entry)) f r (now (store .exit)) (now (digits .exit)) f) ⌝ }
+{
+    let wave = c.wave;
+    let at = c.at;
+    let run = vector_run(bytes, at + 1, digits);
+    let to = run.at;
+    let open = Changes {
+        at: to,
+        line: c.line,
+        started: c.started,
+        shown: c.shown,
+        held: run.count as u64 + 1,
+        wave,
+    };
+    if wave.count != 0 {
+        return open;
+    }
+    if to >= bytes.len() {
+        return open;
+    }
+    let from = to + 1;
+    if from >= bytes.len() {
+        return open;
+    }
+    let e = bytes[to];
+    let b = bytes[from];
+    if is_blank(b) {
+        if run.count == 0 {
+            return open;
+        }
+        if is_blank(e) {
+            let mut due = wave;
+            due.place = 21;
+            due.count = run.count as u64;
+            return past_blank(
+                Changes {
+                    at,
+                    line: c.line,
+                    started: c.started,
+                    shown: c.line,
+                    held: 0,
+                    wave: due,
+                },
+                from,
+                e,
+            );
+        }
+        return open;
+    }
+    if is_blank(e) {
+        let none = Text {
+            length: 0,
+            low: 0,
+            high: 0,
+            plain: 1,
+        };
+        let first = add_text(none, b);
+        let code = text_run(first, bytes, from + 1);
+        let end = code.at;
+        if end >= bytes.len() {
+            return open;
+        }
+        let z = bytes[end];
+        let text = code.text;
+        if is_blank(z) {
+            if vector_good(text, run.count, n, store, digits) {
+                let next = past_blank(
+                    Changes {
+                        at,
+                        line: c.line,
+                        started: c.started,
+                        shown: c.line,
+                        held: 0,
+                        wave,
+                    },
+                    from,
+                    e,
+                );
+                return past_blank(
+                    Changes {
+                        at: next.at,
+                        line: next.line,
+                        started: next.started,
+                        shown: next.line,
+                        held: 0,
+                        wave,
+                    },
+                    end + 1,
+                    z,
+                );
+            }
+            return open;
+        }
+        return open;
+    }
+    open
+}
+
+// White space, a scalar that is good, or a vector, where a change is due.
+fn good_one(c: Changes, n: usize, bytes: &[u8], store: &mut [u64], digits: &mut [u8]) -> Changes
+    requires { ⌜ (length (now store) ≡ 8468) × (n ≤ 1024) × (length (now digits) ≡ 4096) × (c .at < length (now bytes)) ⌝ }
+    ensures { λ r. ⌜ (c .at ≤ r .at) × (r .at ≤ length (now (bytes .entry))) × ((f : List ℕ) → Goes n (now (bytes .entry)) c (now (store .entry)) (now (digits .entry)) f r (now (store .exit)) (now (digits .exit)) f) ⌝ }
 {
     let wave = c.wave;
     let at = c.at;
@@ -125,7 +259,7 @@ fn scalar_one(c: Changes, n: usize, bytes: &[u8], store: &mut [u64]) -> Changes
         return c;
     }
     if k == 4 {
-        return c;
+        return vector_one(c, n, bytes, store, digits);
     }
     let none = Text {
         length: 0,
@@ -161,14 +295,20 @@ fn scalar_one(c: Changes, n: usize, bytes: &[u8], store: &mut [u64]) -> Changes
     c
 }
 
-// Scalars one behind another.
-fn past_scalars(start: Changes, n: usize, bytes: &[u8], store: &mut [u64]) -> Changes
-    requires { ⌜ (length (now store) ≡ 8468) × (n ≤ 1024) × (start .at ≤ length (now bytes)) ⌝ }
-    ensures { λ r. ⌜ (start .at ≤ r .at) × (r .at ≤ length (now (bytes .entry))) × ((d f : List ℕ) → Goes n (now (bytes .entry)) start (now (store .entry)) d f r (now (store .exit)) d f) ⌝ }
+// Changes one behind another.
+fn past_good(
+    start: Changes,
+    n: usize,
+    bytes: &[u8],
+    store: &mut [u64],
+    digits: &mut [u8],
+) -> Changes
+    requires { ⌜ (length (now store) ≡ 8468) × (n ≤ 1024) × (length (now digits) ≡ 4096) × (start .at ≤ length (now bytes)) ⌝ }
+    ensures { λ r. ⌜ (start .at ≤ r .at) × (r .at ≤ length (now (bytes .entry))) × ((f : List ℕ) → Goes n (now (bytes .entry)) start (now (store .entry)) (now (digits .entry)) f r (now (store .exit)) (now (digits .exit)) f) ⌝ }
 {
     let mut c = start;
     while c.at < bytes.len() {
-        let next = scalar_one(c, n, bytes, store);
+        let next = good_one(c, n, bytes, store, digits);
         if next.at == c.at {
             return next;
         }
@@ -391,7 +531,7 @@ pub fn past_all(
 {
     let mut c = start;
     while c.at < bytes.len() {
-        let d = past_scalars(c, n, bytes, store);
+        let d = past_good(c, n, bytes, store, digits);
         if d.at >= bytes.len() {
             return d;
         }

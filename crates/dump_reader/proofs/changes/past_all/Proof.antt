@@ -19,7 +19,7 @@ use Rattle.dump_reader.proofs.changes.past_all.Tie as tie
 use Rattle.dump_reader.proofs.changes.past_all.Reads as reads
 use Rattle.dump_reader.proofs.changes.past_all.Lts as lts
 use Rattle.dump_reader.proofs.changes.past_one.Reads as past-one-reads
-use Rattle.dump_reader.proofs.changes.past_scalars.Reads as past-scalars-reads
+use Rattle.dump_reader.proofs.changes.past_good.Reads as past-good-reads
 
 abbrev Inv-loop : tie.InvT-loop
 Inv-loop n bytes store₀ digits₀ frames₀ c₀ store digits frames c = (c₀ .at ≤ c .at) × (c .at ≤ length bytes) × (length store ≡ 8468) × (length digits ≡ 4096) × (length frames ≡ length frames₀) × Goes n bytes c₀ store₀ digits₀ frames₀ c store digits frames
@@ -27,71 +27,54 @@ Inv-loop n bytes store₀ digits₀ frames₀ c₀ store digits frames c = (c₀
 abbrev μ-loop : tie.MeasureT-loop
 μ-loop n bytes store₀ digits₀ frames₀ c₀ store digits frames c = length bytes - c .at
 
--- src/changes.rt:269:5
 loop-holds : tie.Need-loop-holds Inv-loop μ-loop
 loop-holds c = (omega arith, c .before .before .before .before .pre .4, c .before .before .before .before .pre .0, c .before .before .before .before .pre .2, refl, λ h p q. refl)
 
--- src/changes.rt:270:13
-past-scalars-requires : tie.Need-past-scalars-requires Inv-loop μ-loop
-past-scalars-requires c κs = (c .before .before .before .loop .inv .2, c .before .before .before .before .before .before .before .before .pre .1, c .before .before .before .loop .inv .1)
+past-good-requires : tie.Need-past-good-requires Inv-loop μ-loop
+past-good-requires c κs = (c .before .before .before .before .loop .inv .2, c .before .before .before .before .before .before .before .before .before .pre .1, c .before .before .before .before .loop .inv .3, c .before .before .before .before .loop .inv .1)
 
--- src/changes.rt:272:13
 same-length : tie.Need-same-length Inv-loop μ-loop
-same-length c = c .before .before .before .before .past-scalars .kept .1 .1 .1 .0 ∙ c .before .before .before .before .before .before .before .before .loop .inv .2 ∙ sym (c .before .before .before .before .before .before .before .before .before .before .before .before .before .pre .0)
+same-length c = c .before .before .before .before .before .before .past-good .kept .1 .1 .1 .0 ∙ c .before .before .before .before .before .before .before .before .before .before .before .loop .inv .2 ∙ sym (c .before .before .before .before .before .before .before .before .before .before .before .before .before .before .before .before .pre .0)
 
--- src/changes.rt:272:13
 same-length-2 : tie.Need-same-length-2 Inv-loop μ-loop
-same-length-2 c = c .before .before .before .before .before .before .before .before .loop .inv .3 ∙ sym (c .before .before .before .before .before .before .before .before .before .before .before .before .before .pre .2)
+same-length-2 c = c .before .before .before .before .before .before .past-good .kept .1 .1 .1 .1 .0 ∙ c .before .before .before .before .before .before .before .before .before .before .before .loop .inv .3 ∙ sym (c .before .before .before .before .before .before .before .before .before .before .before .before .before .before .before .before .pre .2)
 
--- src/changes.rt:272:13
 same-length-3 : tie.Need-same-length-3 Inv-loop μ-loop
-same-length-3 c = c .before .before .before .before .before .before .before .before .loop .inv .4
+same-length-3 c = c .before .before .before .before .before .before .before .before .before .before .before .loop .inv .4
 
--- src/changes.rt:272:13
 returns : tie.Need-returns Inv-loop μ-loop
-returns c = (omega (arith, c .before .before .before .before .before .before .before .before .loop .inv .0, c .before .before .before .before .past-scalars .ensures .0), c .before .before .before .before .past-scalars .ensures .1, λ h p q. c .before .before .before .before .before .before .before .before .loop .inv .5 h p q ∙ c .before .before .before .before .past-scalars .ensures .2 _ _ h p q)
+returns c = (omega (arith, c .before .before .before .before .before .before .before .before .before .before .before .loop .inv .0, c .before .before .before .before .before .before .past-good .ensures .0), c .before .before .before .before .before .before .past-good .ensures .1, λ h p q. c .before .before .before .before .before .before .before .before .before .before .before .loop .inv .5 h p q ∙ c .before .before .before .before .before .before .past-good .ensures .2 _ h p q)
 
--- src/changes.rt:274:13
 past-one-requires : tie.Need-past-one-requires Inv-loop μ-loop
-past-one-requires c κs = (c .before .before .before .before .before .before .before .past-scalars .kept .1 .1 .1 .0 ∙ c .before .before .before .before .before .before .before .before .before .before .before .loop .inv .2, c .before .before .before .before .before .before .before .before .before .before .before .before .before .before .before .before .pre .1, c .before .before .before .before .before .before .before .before .before .before .before .loop .inv .3, omega (arith, c .before .before .before .before .before .before .before .before .before .before .before .loop .inv .4, c .before .before .before .before .before .before .before .before .before .before .before .before .before .before .before .before .pre .3), c .before .before .before .if2 .left)
+past-one-requires c κs = (c .before .before .before .before .before .before .before .before .before .past-good .kept .1 .1 .1 .0 ∙ c .before .before .before .before .before .before .before .before .before .before .before .before .before .before .loop .inv .2, c .before .before .before .before .before .before .before .before .before .before .before .before .before .before .before .before .before .before .before .pre .1, c .before .before .before .before .before .before .before .before .before .past-good .kept .1 .1 .1 .1 .0 ∙ c .before .before .before .before .before .before .before .before .before .before .before .before .before .before .loop .inv .3, omega (arith, c .before .before .before .before .before .before .before .before .before .before .before .before .before .before .loop .inv .4, c .before .before .before .before .before .before .before .before .before .before .before .before .before .before .before .before .before .before .before .pre .3), c .before .before .before .if2 .left)
 
--- src/changes.rt:276:13
 same-length-4 : tie.Need-same-length-4 Inv-loop μ-loop
-same-length-4 c = c .before .before .before .before .before .before .before .before .before .past-one .kept .1 .1 .1 .0 ∙ c .before .before .before .before .before .before .before .before .before .before .before .before .before .before .before .before .before .past-scalars .kept .1 .1 .1 .0 ∙ c .before .before .before .before .before .before .before .before .before .before .before .before .before .before .before .before .before .before .before .before .before .loop .inv .2 ∙ sym (c .before .before .before .before .before .before .before .before .before .before .before .before .before .before .before .before .before .before .before .before .before .before .before .before .before .before .pre .0)
+same-length-4 c = c .before .before .before .before .before .before .before .before .before .past-one .kept .1 .1 .1 .0 ∙ c .before .before .before .before .before .before .before .before .before .before .before .before .before .before .before .before .before .before .before .past-good .kept .1 .1 .1 .0 ∙ c .before .before .before .before .before .before .before .before .before .before .before .before .before .before .before .before .before .before .before .before .before .before .before .before .loop .inv .2 ∙ sym (c .before .before .before .before .before .before .before .before .before .before .before .before .before .before .before .before .before .before .before .before .before .before .before .before .before .before .before .before .before .pre .0)
 
--- src/changes.rt:276:13
 same-length-5 : tie.Need-same-length-5 Inv-loop μ-loop
-same-length-5 c = c .before .before .before .before .before .before .before .before .before .past-one .kept .1 .1 .1 .1 .0 ∙ c .before .before .before .before .before .before .before .before .before .before .before .before .before .before .before .before .before .before .before .before .before .loop .inv .3 ∙ sym (c .before .before .before .before .before .before .before .before .before .before .before .before .before .before .before .before .before .before .before .before .before .before .before .before .before .before .pre .2)
+same-length-5 c = c .before .before .before .before .before .before .before .before .before .past-one .kept .1 .1 .1 .1 .0 ∙ c .before .before .before .before .before .before .before .before .before .before .before .before .before .before .before .before .before .before .before .past-good .kept .1 .1 .1 .1 .0 ∙ c .before .before .before .before .before .before .before .before .before .before .before .before .before .before .before .before .before .before .before .before .before .before .before .before .loop .inv .3 ∙ sym (c .before .before .before .before .before .before .before .before .before .before .before .before .before .before .before .before .before .before .before .before .before .before .before .before .before .before .before .before .before .pre .2)
 
--- src/changes.rt:276:13
 same-length-6 : tie.Need-same-length-6 Inv-loop μ-loop
-same-length-6 c = c .before .before .before .before .before .before .before .before .before .past-one .kept .1 .1 .1 .1 .1 .0 ∙ c .before .before .before .before .before .before .before .before .before .before .before .before .before .before .before .before .before .before .before .before .before .loop .inv .4
+same-length-6 c = c .before .before .before .before .before .before .before .before .before .past-one .kept .1 .1 .1 .1 .1 .0 ∙ c .before .before .before .before .before .before .before .before .before .before .before .before .before .before .before .before .before .before .before .before .before .before .before .before .loop .inv .4
 
--- src/changes.rt:276:13
 returns-2 : tie.Need-returns-2 Inv-loop μ-loop
-returns-2 c = (omega (arith, c .before .before .before .before .before .before .before .before .before .before .before .before .before .before .before .before .before .before .before .before .before .loop .inv .0, c .before .before .before .before .before .before .before .before .before .before .before .before .before .before .before .before .before .past-scalars .ensures .0, c .before .before .before .before .before .before .before .before .before .past-one .ensures .0), c .before .before .before .before .before .before .before .before .before .past-one .ensures .1, λ h p q. c .before .before .before .before .before .before .before .before .before .before .before .before .before .before .before .before .before .before .before .before .before .loop .inv .5 h p q ∙ c .before .before .before .before .before .before .before .before .before .before .before .before .before .before .before .before .before .past-scalars .ensures .2 _ _ h p q ∙ c .before .before .before .before .before .before .before .before .before .past-one .ensures .2 h p q)
+returns-2 c = (omega (arith, c .before .before .before .before .before .before .before .before .before .before .before .before .before .before .before .before .before .before .before .before .before .before .before .before .loop .inv .0, c .before .before .before .before .before .before .before .before .before .before .before .before .before .before .before .before .before .before .before .past-good .ensures .0, c .before .before .before .before .before .before .before .before .before .past-one .ensures .0), c .before .before .before .before .before .before .before .before .before .past-one .ensures .1, λ h p q. c .before .before .before .before .before .before .before .before .before .before .before .before .before .before .before .before .before .before .before .before .before .before .before .before .loop .inv .5 h p q ∙ c .before .before .before .before .before .before .before .before .before .before .before .before .before .before .before .before .before .before .before .past-good .ensures .2 _ h p q ∙ c .before .before .before .before .before .before .before .before .before .past-one .ensures .2 h p q)
 
--- src/changes.rt:269:5
 loop-less : tie.Need-loop-less Inv-loop μ-loop
-loop-less c = omega (arith, c .before .before .before .before .before .before .before .before .before .before .before .before .before .before .before .before .before .past-scalars .ensures .0, c .before .before .before .before .before .before .before .before .before .past-one .ensures .0, c .before .before .before .before .before .before .before .before .before .past-one .ensures .1, c .if3 .left, c .before .before .before .before .before .before .before .before .before .before .before .before .before .before .before .before .before .before .before .if1 .taken)
+loop-less c = omega (arith, c .before .before .before .before .before .before .before .before .before .before .before .before .before .before .before .before .before .before .before .past-good .ensures .0, c .before .before .before .before .before .before .before .before .before .past-one .ensures .0, c .before .before .before .before .before .before .before .before .before .past-one .ensures .1, c .if3 .left, c .before .before .before .before .before .before .before .before .before .before .before .before .before .before .before .before .before .before .before .before .before .before .if1 .taken)
 
--- src/changes.rt:269:5
 loop-again : tie.Need-loop-again Inv-loop μ-loop
-loop-again c = (omega (arith, c .before .before .before .before .before .before .before .before .before .before .before .before .before .before .before .before .before .before .before .before .before .loop .inv .0, c .before .before .before .before .before .before .before .before .before .before .before .before .before .before .before .before .before .past-scalars .ensures .0, c .before .before .before .before .before .before .before .before .before .past-one .ensures .0), c .before .before .before .before .before .before .before .before .before .past-one .ensures .1, c .before .before .before .before .before .before .before .before .before .past-one .kept .1 .1 .1 .0 ∙ c .before .before .before .before .before .before .before .before .before .before .before .before .before .before .before .before .before .past-scalars .kept .1 .1 .1 .0 ∙ c .before .before .before .before .before .before .before .before .before .before .before .before .before .before .before .before .before .before .before .before .before .loop .inv .2, c .before .before .before .before .before .before .before .before .before .past-one .kept .1 .1 .1 .1 .0 ∙ c .before .before .before .before .before .before .before .before .before .before .before .before .before .before .before .before .before .before .before .before .before .loop .inv .3, c .before .before .before .before .before .before .before .before .before .past-one .kept .1 .1 .1 .1 .1 .0 ∙ c .before .before .before .before .before .before .before .before .before .before .before .before .before .before .before .before .before .before .before .before .before .loop .inv .4, λ h p q. c .before .before .before .before .before .before .before .before .before .before .before .before .before .before .before .before .before .before .before .before .before .loop .inv .5 h p q ∙ c .before .before .before .before .before .before .before .before .before .before .before .before .before .before .before .before .before .past-scalars .ensures .2 _ _ h p q ∙ c .before .before .before .before .before .before .before .before .before .past-one .ensures .2 h p q)
+loop-again c = (omega (arith, c .before .before .before .before .before .before .before .before .before .before .before .before .before .before .before .before .before .before .before .before .before .before .before .before .loop .inv .0, c .before .before .before .before .before .before .before .before .before .before .before .before .before .before .before .before .before .before .before .past-good .ensures .0, c .before .before .before .before .before .before .before .before .before .past-one .ensures .0), c .before .before .before .before .before .before .before .before .before .past-one .ensures .1, c .before .before .before .before .before .before .before .before .before .past-one .kept .1 .1 .1 .0 ∙ c .before .before .before .before .before .before .before .before .before .before .before .before .before .before .before .before .before .before .before .past-good .kept .1 .1 .1 .0 ∙ c .before .before .before .before .before .before .before .before .before .before .before .before .before .before .before .before .before .before .before .before .before .before .before .before .loop .inv .2, c .before .before .before .before .before .before .before .before .before .past-one .kept .1 .1 .1 .1 .0 ∙ c .before .before .before .before .before .before .before .before .before .before .before .before .before .before .before .before .before .before .before .past-good .kept .1 .1 .1 .1 .0 ∙ c .before .before .before .before .before .before .before .before .before .before .before .before .before .before .before .before .before .before .before .before .before .before .before .before .loop .inv .3, c .before .before .before .before .before .before .before .before .before .past-one .kept .1 .1 .1 .1 .1 .0 ∙ c .before .before .before .before .before .before .before .before .before .before .before .before .before .before .before .before .before .before .before .before .before .before .before .before .loop .inv .4, λ h p q. c .before .before .before .before .before .before .before .before .before .before .before .before .before .before .before .before .before .before .before .before .before .before .before .before .loop .inv .5 h p q ∙ c .before .before .before .before .before .before .before .before .before .before .before .before .before .before .before .before .before .before .before .past-good .ensures .2 _ h p q ∙ c .before .before .before .before .before .before .before .before .before .past-one .ensures .2 h p q)
 
--- src/changes.rt:264:1
 same-length-7 : tie.Need-same-length-7 Inv-loop μ-loop
 same-length-7 c = c .before .before .loop .inv .2 ∙ sym (c .before .before .before .before .before .before .before .pre .0)
 
--- src/changes.rt:264:1
 same-length-8 : tie.Need-same-length-8 Inv-loop μ-loop
 same-length-8 c = c .before .before .loop .inv .3 ∙ sym (c .before .before .before .before .before .before .before .pre .2)
 
--- src/changes.rt:264:1
 same-length-9 : tie.Need-same-length-9 Inv-loop μ-loop
 same-length-9 c = c .before .before .loop .inv .4
 
--- src/changes.rt:264:1
 returns-3 : tie.Need-returns-3 Inv-loop μ-loop
 returns-3 c = (c .before .before .loop .inv .0, c .before .before .loop .inv .1, c .before .before .loop .inv .5)
 
@@ -102,7 +85,7 @@ past-all-spec =
     Inv-loop
     μ-loop
     loop-holds
-    past-scalars-requires
+    past-good-requires
     same-length
     same-length-2
     same-length-3
