@@ -1,21 +1,16 @@
 -- Laws of the machine that the proofs of its code cite. Assumes nothing.
-use mathlib.Core.Path.{_≡_, refl, _∙_, sym, ap}
-use mathlib.Core.Bool.{Bool, true, false, cond}
+use mathlib.Core.Path.{_≡_, refl, sym}
+use mathlib.Core.Bool.{true, false}
 use mathlib.Core.List.{List, [], _∷_, _++_}
-use Prim.Native.Nat.{ℕ, suc, _+_, _<_, _≤_}
+use Prim.Native.Nat.{ℕ, _+_, _<_}
 use native.Mathlib.Omega.{arith}
-use native.Mathlib.Numerals.{add-one}
-use lib.Dec.{eqb}
-use lib.ListN.{length, getD, take, drop, take-append-drop}
-use lib.Seq.{take-all, take-suc}
 use borrow.Author.Tests.{le-leb, lt-leb, eq-eqb, ne-eqb}
 use Rattle.dump.specs.Text.{blank}
 use Rattle.dump_words.specs.declared.text.Text.{Text}
 use Rattle.dump_find.specs.Find.{bounded}
 use Rattle.dump_values.specs.Values.{connectFrom}
 use Rattle.dump_declare.specs.declared.head.Head.{Head}
-use Rattle.dump_reader.specs.declared.state.Reader.{Reader}
-use Rattle.dump_reader.specs.Machine.{All, refused, newLine, countLines, lastPlace, lastStore, endWord, closedWord, addByte, lined, byteStep, step, feed, closing, finishAt, finish}
+use Rattle.dump_reader.specs.Machine.{All, refused, countLines, lastPlace, lastStore, endWord, closedWord, addByte, lined, byteStep, step, feed, closing, finishAt, finish}
 
 pub above-blanks : (b : ℕ) → 32 < b → false ≡ blank b
 above-blanks b h = sym (simp (ne-eqb b 32 (λ e. omega (arith, e, h)), le-leb 9 b (omega arith), lt-leb b 13 (omega arith)))
@@ -52,31 +47,8 @@ unfolding feed
 feed-append a [] y = refl
 feed-append a (b ∷ x) y = feed-append (step a b) x y
 
-pub read-none : (a : All) (bs : List ℕ) → a ≡ feed a (take 0 bs)
-unfolding feed
-read-none a bs = refl
-
 -- what is refused stays
 pub feed-refused : (a : All) (bs : List ℕ) → refused (a .reader) ≡ true → feed a bs ≡ a
 unfolding feed step
 feed-refused a [] h = refl
 feed-refused a (b ∷ bs) h = rw h (feed-refused a bs h)
-
-module _ (a s : All) (bs : List ℕ) (i : ℕ) (inv : s ≡ feed a (take i bs)) where
-  pub read-more : (t : All) → i < length bs → refused (s .reader) ≡ false → t ≡ byteStep s (getD bs i 0) → t ≡ feed a (take (i + 1) bs)
-  unfolding feed step
-  read-more t h g e =
-      e
-      ∙ sym (simp g)
-      ∙ ap (λ (x : All). step x (getD bs i 0)) inv
-      ∙ sym (rw (add-one, take-suc bs i 0 h) (feed-append a (take i bs) (getD bs i 0 ∷ [])))
-
-  pub read-stop : refused (s .reader) ≡ true → s ≡ feed a bs
-  read-stop g =
-      sym (feed-refused s (drop i bs) g)
-      ∙ ap (λ (x : All). feed x (drop i bs)) inv
-      ∙ sym (feed-append a (take i bs) (drop i bs))
-      ∙ ap (feed a) (take-append-drop i bs)
-
-  pub read-end : length bs ≤ i → s ≡ feed a bs
-  read-end h = inv ∙ ap (feed a) (take-all i bs h)
