@@ -1,12 +1,17 @@
 #!/usr/bin/env bash
-# Builds the C example against the header and the proved library, and runs it. $1: the library (default: build it).
+# Builds the C examples against the header and the proved library, and runs them. $1: the library (default: build it).
 set -euo pipefail
 cd "$(dirname "$0")/.."
 library=${1:-}
 if [ -z "$library" ]; then
-    rt staticlib selvedgeon
-    library=target/staticlib/libselvedgeon.a
+    ./library.sh
+    library=target/libselvedgeon.a
 fi
 mkdir -p target/examples
-gcc -std=c11 -Wall -Wextra -Werror -O2 -Iinclude examples/recheck.c "$library" -o target/examples/recheck
+for example in recheck pieces; do
+    gcc -std=c11 -Wall -Wextra -Werror -O2 -Iinclude "examples/$example.c" "$library" -o "target/examples/$example"
+done
+echo "-- examples/recheck.c"
 target/examples/recheck
+echo "-- examples/pieces.c"
+target/examples/pieces crates/marks/stdin

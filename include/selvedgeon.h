@@ -112,7 +112,8 @@ enum selvedgeon_refusal {
     SELVEDGEON_NOT_DECLARED = 13, /* the clock or a connected wire is not declared as bits, or its index not in its range */
     SELVEDGEON_BACKWARDS = 14,    /* a time stamp goes back */
     SELVEDGEON_UNKNOWN_WIRE = 15, /* never given: an unknown wire has its unknown bit */
-    SELVEDGEON_NO_ROOM = 16       /* a sample for which there is no frame left */
+    SELVEDGEON_NO_ROOM = 16,      /* a sample for which there is no frame left */
+    SELVEDGEON_OVER = 17          /* a piece or an end after an accepted end */
 };
 
 /* a declared range, and a checker of a bench */
@@ -277,6 +278,52 @@ struct selvedgeon_loaded {
  */
 struct selvedgeon_loaded selvedgeon_load(const uint8_t *dump, size_t dump_len, const uint64_t *wires, size_t wires_len,
                                          uint32_t *frames, size_t frames_len);
+
+/*
+ * A dump that arrives in pieces of any size, also of none. The state of its reader is handed over by value: what a call
+ * gives back goes into the next one, with the same frames each time. It has nothing to free and may be copied and kept: a
+ * copy goes on from where it was made. The numbers in it are the reader's own.
+ *
+ *     struct selvedgeon_read read = {selvedgeon_reader_begin(wires, 258), {0, 0, 0, 0}};
+ *     while (there is a block)
+ *         read = selvedgeon_reader_piece(read.state, block, block_len, frames, frames_len);
+ *     read = selvedgeon_reader_end(read.state, frames, frames_len);
+ *
+ * However the dump is cut, read.answer and the frames are then those that selvedgeon_load gives for the whole of it.
+ */
+struct selvedgeon_reader {
+    uint64_t kept[9021];
+};
+
+/* what a piece and the end give: the state for the next call, and the answer */
+struct selvedgeon_read {
+    struct selvedgeon_reader state;
+    struct selvedgeon_loaded answer;
+};
+
+/* The state before the first piece, from the connections of selvedgeon_load. It refuses nothing: a piece or an end does. */
+struct selvedgeon_reader selvedgeon_reader_begin(const uint64_t *wires, size_t wires_len);
+
+/*
+ * Reads one piece. A word is read when the white space behind it arrives, or the end: until then it refuses nothing and
+ * samples nothing.
+ * Answers 0, the number of frames sampled so far, and line and identifier 0; or the refusal.
+ * Writes: the frames sampled; all other words stay.
+ * Refusals, in this order: after an accepted end 17, with the frames that there were and line and identifier 0; after any
+ * other refusal that one again, with its frames, line and identifier; both leave state and frames as they were. Then 4 where
+ * frames_len is no multiple of 8 or is more than 65,536 frames; 5 where wires_len was not 258. Then 10 to 14 and 16, where
+ * lines count over all pieces.
+ * A state that no call gave, and frames other than the last ones, get an answer too; nothing but the frames is written.
+ */
+struct selvedgeon_read selvedgeon_reader_piece(struct selvedgeon_reader state, const uint8_t *piece, size_t piece_len,
+                                               uint32_t *frames, size_t frames_len);
+
+/*
+ * The end of the dump.
+ * Answers what selvedgeon_load answers for all pieces together; a last line without a newline is a line.
+ * Writes and refusals: as for a piece.
+ */
+struct selvedgeon_read selvedgeon_reader_end(struct selvedgeon_reader state, uint32_t *frames, size_t frames_len);
 
 #ifdef __cplusplus
 }

@@ -2,7 +2,8 @@
  * Dumps as Icarus Verilog, Verilator and GHDL wrote them (dumps/README.md): each is loaded, and every word of every frame is
  * compared with what the simulator itself printed at the rising edges of the clock. A case NAME has the connections in
  * NAME.wires and the printed lines in NAME.printed, of the dump NAME.vcd without the number behind its name. Some dumps have
- * what the standard does not allow: NAME.refused has the refusal and its line that are due.
+ * what the standard does not allow: NAME.refused has the refusal and its line that are due. Each dump is also read in two
+ * pieces, cut at every byte, and byte by byte, and then once more behind its end.
  *
  * Arguments: the cases to compare (default: all). The files are found from the root of the project.
  */
@@ -248,6 +249,46 @@ static size_t read_printed(uint32_t *frames, struct port *ports)
     return lines;
 }
 
+static int same(struct selvedgeon_loaded one, struct selvedgeon_loaded other)
+{
+    return one.refusal == other.refusal && one.frames == other.frames && one.line == other.line &&
+           one.identifier == other.identifier;
+}
+
+/* a call behind the end, which answers what is due and alters neither state nor frames */
+static void expect_over(struct selvedgeon_read before, struct selvedgeon_read after, struct selvedgeon_loaded loaded,
+                        const uint32_t *due, const uint32_t *frames)
+{
+    struct selvedgeon_loaded over = {SELVEDGEON_OVER, loaded.frames, 0, 0};
+    if (!same(after.answer, loaded.refusal == 0 ? over : loaded))
+        fail("a call behind the end found refusal %" PRIu32, after.answer.refusal);
+    if (memcmp(&after.state, &before.state, sizeof after.state) != 0 ||
+        memcmp(frames, due, FRAME_WORDS * MOST * sizeof *frames) != 0)
+        fail("a call behind the end altered the state or the frames");
+}
+
+/* the dump in a first piece up to the cut and then in pieces of at most `block` bytes */
+static void expect_pieces(const uint8_t *dump, size_t length, size_t cut, size_t block, const uint64_t *table,
+                          struct selvedgeon_loaded loaded, const uint32_t *due)
+{
+    static struct selvedgeon_read read, over;
+    uint32_t frames[FRAME_WORDS * MOST];
+    for (size_t i = 0; i < FRAME_WORDS * MOST; i++)
+        frames[i] = GUARD;
+    read.state = selvedgeon_reader_begin(table, TABLE);
+    read = selvedgeon_reader_piece(read.state, dump, cut, frames, FRAME_WORDS * MOST);
+    for (size_t at = cut; at < length; at += block)
+        read = selvedgeon_reader_piece(read.state, dump + at, length - at < block ? length - at : block, frames,
+                                       FRAME_WORDS * MOST);
+    read = selvedgeon_reader_end(read.state, frames, FRAME_WORDS * MOST);
+    if (!same(read.answer, loaded) || memcmp(frames, due, sizeof frames) != 0)
+        fail("cut at byte %zu and then each %zu bytes it is another dump", cut, block);
+    over = selvedgeon_reader_piece(read.state, dump, length, frames, FRAME_WORDS * MOST);
+    expect_over(read, over, loaded, due, frames);
+    over = selvedgeon_reader_end(read.state, frames, FRAME_WORDS * MOST);
+    expect_over(read, over, loaded, due, frames);
+}
+
 /* loads the dump into MOST frames; those that are not sampled must stay */
 static struct selvedgeon_loaded load(const uint64_t *table, uint32_t *frames)
 {
@@ -257,6 +298,11 @@ static struct selvedgeon_loaded load(const uint64_t *table, uint32_t *frames)
         frames[i] = GUARD;
     struct selvedgeon_loaded loaded =
         selvedgeon_load((const uint8_t *)dump, length, table, TABLE, frames, FRAME_WORDS * MOST);
+    /* at every byte once for a dump: its further cases connect other wires */
+    const char *number = strchr(current, '.');
+    for (size_t cut = 0; cut <= length; cut += number == NULL || number[1] == '1' ? 1 : 97)
+        expect_pieces((const uint8_t *)dump, length, cut, length, table, loaded, frames);
+    expect_pieces((const uint8_t *)dump, length, 0, 1, table, loaded, frames);
     free(dump);
     if (loaded.frames > MOST)
         fail("found %" PRIu64 " frames, and %d were lent", loaded.frames, MOST);

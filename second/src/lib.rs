@@ -1,4 +1,4 @@
-//! A second program for the rules of document 01 with §1, §2, §4 to §8 and §12 of document 02, and a comparison of the library
+//! A second program for the rules of document 01 with §1, §2, §4 to §8, §11 and §12 of document 02, and a comparison of the library
 //! with it on many inputs.
 //!
 //! SEED=n sets the seed; CASES=n or SECONDS=n how long to run; CASE=n runs one case alone, DUMP=n one dump.

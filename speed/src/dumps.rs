@@ -6,6 +6,7 @@ use std::time::Instant;
 
 #[path = "../../second/src/dumps/speed.rs"]
 mod large;
+mod table;
 #[allow(dead_code)]
 #[path = "../../second/src/dumps/reader/mod.rs"]
 mod reader;
@@ -32,16 +33,6 @@ extern "C" {
 const BYTES: usize = 10_000_000;
 const FRAMES: usize = 65_536;
 
-/// The table of connections: a code is its bytes, the first lowest.
-fn table(pairs: &[(usize, Vec<u8>, u64)]) -> Vec<u64> {
-    let mut wires = vec![0; 258];
-    for (entry, code, index) in pairs {
-        wires[2 * entry] = code.iter().rev().fold(0, |number, byte| number << 8 | u64::from(*byte));
-        wires[2 * entry + 1] = *index;
-    }
-    wires
-}
-
 /// The seconds that vcd2fst takes on a file, from its start to its end.
 fn converted(program: &str, dump: &str) -> f64 {
     let start = Instant::now();
@@ -52,7 +43,7 @@ fn converted(program: &str, dump: &str) -> f64 {
 }
 
 fn measure(name: &str, large: large::Large, folder: &str, rounds: usize, program: Option<&str>) {
-    let wires = table(&large.pairs);
+    let wires = table::of(&large.pairs);
     let (mut ours, mut theirs) = (vec![0_u32; 8 * FRAMES], vec![0_u32; 8 * FRAMES]);
     let file = format!("{folder}/{}.vcd", name.replace(' ', "_"));
     std::fs::write(&file, &large.dump).expect("the dump is written");

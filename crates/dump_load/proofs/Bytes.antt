@@ -133,7 +133,7 @@ module _ (wires lent : List ℕ) where
       go true = omega arith
       go false = omega arith
 
-  pub fed-alike : (bs : List ℕ) (a : All) (m : M) (s : ℕ) → Bytes bs → m .line + length bs < 18446744073709551615 → Alike wires lent a m s → Alike wires lent (feed a bs) (fed (pairs wires) (length lent / 8) m bs) (startedOf s bs)
+  pub fed-alike : (bs : List ℕ) (a : All) (m : M) (s : ℕ) → Bytes bs → m .line + length bs ≤ 18446744073709551615 → Alike wires lent a m s → Alike wires lent (feed a bs) (fed (pairs wires) (length lent / 8) m bs) (startedOf s bs)
   unfolding feed fed startedOf
   fed-alike [] a m s g l h = h
   fed-alike (b ∷ bs) a m s (x, g) l h =

@@ -199,14 +199,14 @@ module _ (wires lent : List ℕ) where
   alike-first : length wires ≡ 258 → Alike wires lent (firstAll wires lent) m₀ 0
   alike-first e = starts (tableFrom (replicate 8468 0) wires 0 258) (replicate 4096 0) (fresh-start wires e) (length-replicate {A = ℕ} 4096 0)
 
-  read-meets : (dump : List ℕ) → Bytes dump → length dump < 2 ^ 63 → length wires ≡ 258 → Meets lent (readAll dump wires lent) (L.read (pairs wires) (length lent / 8) dump)
+  read-meets : (dump : List ℕ) → Bytes dump → length dump ≤ 2 ^ 64 - 2 → length wires ≡ 258 → Meets lent (readAll dump wires lent) (L.read (pairs wires) (length lent / 8) dump)
   unfolding readAll L.read
   read-meets dump g l e =
       rw (← count-is (pairs wires) (length lent / 8) dump, ← fed-words (pairs wires) (length lent / 8) dump)
       (ends (feed (firstAll wires lent) dump) (fed (pairs wires) (length lent / 8) m₀ dump) (startedOf 0 dump) (fed-alike wires lent dump (firstAll wires lent) m₀ 0 g (omega arith) (alike-first e)))
 
 -- THE THEOREM
-pub meets : (dump wires lent : List ℕ) → Bytes dump → length dump < 2 ^ 63 → length wires ≡ 258 → length lent ≤ 524288
+pub meets : (dump wires lent : List ℕ) → Bytes dump → length dump ≤ 2 ^ 64 - 2 → length wires ≡ 258 → length lent ≤ 524288
     → let a = L.read (pairs wires) (length lent / 8) dump in
     (answered (readAll dump wires lent .reader) ≡ record { refusal = a .refusal; frames = length (a .frames); line = a .line; identifier = a .identifier })
     × (readAll dump wires lent .frames ≡ L.filled (a .frames) lent)

@@ -5,6 +5,8 @@ mod load;
 
 pub use answer::Loaded;
 pub use answer::answer_of;
+pub use answer::refused_with;
 pub use begin::first_reader;
 pub use begin::put_table;
+pub use load::frames_fit;
 pub use load::load_dump;

@@ -12,7 +12,8 @@ ghost use lib.ListN.{length};
 ghost use Rattle.dump.specs.Load.{load, filled};
 ghost use Rattle.dump_load.specs.Loading.{fits, loadedOf, answered, readAll};
 
-fn frames_fit(words: usize) -> bool
+// Whether so many words are a trace.
+pub fn frames_fit(words: usize) -> bool
     ensures { λ r. ⌜ r ≡ fits words ⌝ }
 {
     if words % 8 != 0 {

@@ -42,7 +42,7 @@ module _ (a : All) (count : ℕ) (e : count ≡ countLines (a .reader)) (open′
   end-inside s h f = rw (e, f) (simp (open′, ne-eqb (a .reader .word .class) 0 h))
 
 -- THE BYTES one by one
-feed-append : (a : All) (x y : List ℕ) → feed a (x ++ y) ≡ feed (feed a x) y
+pub feed-append : (a : All) (x y : List ℕ) → feed a (x ++ y) ≡ feed (feed a x) y
 unfolding feed
 feed-append a [] y = refl
 feed-append a (b ∷ x) y = feed-append (step a b) x y

@@ -1,6 +1,5 @@
 // What the C host calls: the proved calls, on numbers and lent slices.
 mod calls;
-mod loads;
 mod numbers;
 mod step;
 mod table;
@@ -10,7 +9,6 @@ pub use calls::selvedgeon_edit_and_take_back;
 pub use calls::selvedgeon_failures;
 pub use calls::selvedgeon_recheck;
 pub use calls::selvedgeon_totals;
-pub use loads::selvedgeon_load;
 pub use numbers::selvedgeon_first_failure;
 pub use numbers::selvedgeon_open_count;
 pub use step::selvedgeon_step;

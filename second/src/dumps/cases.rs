@@ -3,6 +3,7 @@
 
 use super::compare::{self, Due, Loader};
 use super::inputs::Input;
+use super::pieces;
 use super::reader::{Loaded, FRAME_WORDS, MOST_FRAMES, TABLE_WORDS};
 use super::tables::number_of;
 use super::wrong::Wrong;
@@ -330,17 +331,19 @@ impl Case {
     }
 }
 
-fn compare_case(case: &Case, loaders: &[(&str, Loader)]) -> Result<u64, String> {
+/// Answers how many beginnings of the case were compared, and how many ways of cutting it.
+fn compare_case(case: &Case, loaders: &[(&str, Loader)]) -> Result<(u64, u64), String> {
     let named = |difference| format!("dump by hand, {}: {difference}", case.name);
     let mut input = case.input();
     for (name, loader) in loaders {
         compare::compare(loader, &input, &case.due()).map_err(|d| named(format!("{name}: {d}")))?;
     }
+    let ways = pieces::compare_small(&input, &case.due()).map_err(named)?;
     // Every beginning of the text. A long one repeats itself, and so does what is compared.
     let len = input.dump.len();
     let step = 1 + len / 2_000;
     if case.words > 100 * FRAME_WORDS {
-        return Ok(0);
+        return Ok((0, ways));
     }
     for cut in (0..len).rev().step_by(step) {
         input.dump.truncate(cut);
@@ -349,19 +352,20 @@ fn compare_case(case: &Case, loaders: &[(&str, Loader)]) -> Result<u64, String> 
             compare::compare(loader, &input, &due).map_err(|d| named(format!("its first {cut} bytes: {name}: {d}")))?;
         }
     }
-    Ok((len / step) as u64)
+    Ok(((len / step) as u64, ways))
 }
 
-/// Answers how many cases there are, and how many beginnings of them were compared.
+/// Answers how many cases there are, how many beginnings of them were compared, and how many ways of cutting them.
 pub fn compare(library: Option<Loader>) -> Result<String, String> {
     let plain = compare::plain_with(Wrong::Nothing);
     let mut loaders: Vec<(&str, Loader)> = vec![("fast reader", &compare::right), ("plain reader", &plain)];
     loaders.extend(library.map(|library| ("library", library)));
     let parts = [samples(), connections(), ranges(), declarations(), vars(), changes(), stamps(), calls()];
     let cases: Vec<Case> = parts.into_iter().flatten().collect();
-    let mut beginnings = 0;
+    let (mut beginnings, mut ways) = (0, 0);
     for case in &cases {
-        beginnings += compare_case(case, &loaders)?;
+        let compared = compare_case(case, &loaders)?;
+        (beginnings, ways) = (beginnings + compared.0, ways + compared.1);
     }
-    Ok(format!("{}, and {beginnings} beginnings of them", cases.len()))
+    Ok(format!("{}, {beginnings} beginnings of them, and {ways} ways of cutting them", cases.len()))
 }

@@ -1,6 +1,6 @@
-//! VCD dumps (§1 of document 02, with the frames of §8): two readers, dumps worked by hand, dumps from a seed, and the
-//! comparison of the library with the readers on all of them. Where the library has no such call yet, the readers are compared
-//! with each other; and in every run the comparison has to find each of many wrong readers.
+//! VCD dumps (§1 of document 02, with the frames of §8), whole and in pieces (§11): two readers, dumps worked by hand, dumps
+//! from a seed, and the comparison of the library with the readers on all of them. Where the library has no such call yet,
+//! the readers are compared with each other; and in every run the comparison has to find each of many wrong readers.
 //!
 //! DUMP=n shows one dump alone.
 
@@ -12,6 +12,7 @@ mod generate;
 #[cfg(loads)]
 mod host;
 mod inputs;
+mod pieces;
 mod plain;
 pub mod reader;
 mod situations;
@@ -23,6 +24,7 @@ mod wrong;
 use crate::generate::Random;
 use compare::{Due, Loader};
 use inputs::Input;
+use pieces::Ways;
 use situations::Met;
 use std::time::{Duration, Instant};
 use tally::Tally;
@@ -76,17 +78,18 @@ fn try_wrong(input: &Input, due: &Due, number: u64, tally: &mut Tally) {
     }
 }
 
-fn run_one(seed: u64, number: u64, tally: &mut Tally) -> Result<(), String> {
+fn run_one(seed: u64, number: u64, tally: &mut Tally, in_pieces: &mut pieces::Tally) -> Result<(), String> {
     let input = input(seed, number);
     let due = compare::due(&input);
     let met = compare_readers(&input, &due)?;
     try_wrong(&input, &due, number, tally);
     tally.count(due.loaded.refusal, &met);
-    Ok(())
+    Ways::new(seed, number, &input, &due).compare(in_pieces)
 }
 
 /// One dump alone, to be looked at.
 pub fn show(seed: u64, number: u64) -> Result<String, String> {
+    pieces::test_header()?;
     let input = input(seed, number);
     let due = compare::due(&input);
     println!("{}", input.dump.escape_ascii().to_string().replace("\\n", "\\n\n"));
@@ -97,22 +100,28 @@ pub fn show(seed: u64, number: u64) -> Result<String, String> {
     for frame in due.frames.chunks(reader::FRAME_WORDS).take(due.loaded.frames as usize) {
         println!("{frame:x?}");
     }
-    compare_readers(&input, &due).map(|_| format!("second: dump {number}, seed {seed}, equal"))
+    compare_readers(&input, &due)?;
+    Ways::new(seed, number, &input, &due).compare(&mut pieces::Tally::new())?;
+    Ok(format!("second: dump {number}, seed {seed}, equal"))
 }
 
 /// The dumps worked by hand, then the generated ones.
 pub fn compare(seed: u64, limit: Limit) -> Result<(), String> {
     let begin = Instant::now();
+    pieces::test_header()?;
     println!("\ndumps worked by hand: {}, all equal", cases::compare(LIBRARY)?);
-    let mut tally = Tally::new();
+    println!("dumps in pieces worked by hand: {}, all equal", pieces::compare_by_hand()?);
+    println!("dumps with long words or many samples: {}, all equal", pieces::compare_long(seed, LIBRARY)?);
+    let (mut tally, mut in_pieces) = (Tally::new(), pieces::Tally::new());
     let mut number = 0;
     while number < limit.dumps && limit.time.is_none_or(|most| begin.elapsed() < most) {
-        run_one(seed, number, &mut tally)
+        run_one(seed, number, &mut tally, &mut in_pieces)
             .map_err(|difference| format!("seed {seed}, dump {number} (DUMP={number} shows it): {difference}"))?;
         number += 1;
     }
     tally.print(LIBRARY.is_some());
-    let missed = tally.missed();
+    in_pieces.print(pieces::HAS_LIBRARY);
+    let missed = [tally.missed(), in_pieces.missed()].concat();
     if !missed.is_empty() {
         return Err(format!("{number} dumps, seed {seed}, all equal, but these were missed:\n  {}", missed.join("\n  ")));
     }

@@ -27,7 +27,7 @@ impl<'a> Plain<'a> {
                 Err(refusal) => return Err(refusal),
             }
         }
-        if self.is(Wrong::EndClosesNot) || last.is_err() {
+        if !self.is_whole || self.is(Wrong::EndClosesNot) || last.is_err() {
             return last;
         }
         self.close(self.last_line, true)

@@ -34,6 +34,8 @@ struct Plain<'a> {
     at: usize,
     last_line: u64,
     has_open_line: bool,
+    /// Whether the end of the text is that of the dump.
+    is_whole: bool,
     wrong: Wrong,
     met: Met,
     table: &'a [u64],
@@ -63,6 +65,15 @@ struct Stamp {
 
 /// What the text answers, and the situations it meets.
 pub fn load(dump: &[u8], table: &[u64], frames: &mut [u32], wrong: Wrong) -> (Loaded, Met) {
+    load_part(dump, table, frames, wrong, true)
+}
+
+/// What is known of a dump that begins with this text: a word that may go on is not read, and nothing ends.
+pub fn load_front(text: &[u8], table: &[u64], frames: &mut [u32]) -> Loaded {
+    load_part(text, table, frames, Wrong::Nothing, false).0
+}
+
+fn load_part(dump: &[u8], table: &[u64], frames: &mut [u32], wrong: Wrong, is_whole: bool) -> (Loaded, Met) {
     let mut met = Met::none();
     if let Some(refusal) = refused_call(table, frames, wrong, &mut met) {
         if wrong == Wrong::RefusedWrites {
@@ -70,11 +81,18 @@ pub fn load(dump: &[u8], table: &[u64], frames: &mut [u32], wrong: Wrong) -> (Lo
         }
         return (Loaded { refusal, frames: 0, line: 0, identifier: 0 }, met);
     }
-    let (words, last_line) = cut(dump, wrong, &mut met);
+    let (mut words, last_line) = cut(dump, wrong, &mut met);
+    if !is_whole && dump.last().is_some_and(|byte| !is_white(*byte, wrong)) {
+        words.pop();
+    }
     let mut plain = Plain::new(words, last_line, table, frames, wrong, met);
+    plain.is_whole = is_whole;
     plain.has_open_line = dump.last().is_some_and(|byte| *byte != b'\n');
     plain.met.meet_if(plain.frames.len() == 8 * 65_536, Situation::Frames65536);
-    let read = plain.read();
+    let read = match plain.read() {
+        Err(refusal) if refusal.is_end && !is_whole => Ok(()),
+        read => read,
+    };
     let answer = plain.answer(read);
     (answer, plain.met)
 }
@@ -191,6 +209,7 @@ impl<'a> Plain<'a> {
             at: 0,
             last_line,
             has_open_line: false,
+            is_whole: true,
             wrong,
             met,
             table,

@@ -22,7 +22,7 @@ impl<'c, 'a> Changes<'c, 'a, '_> {
                 _ => self.change(word)?,
             }
         }
-        self.sampler.end()
+        Ok(())
     }
 
     fn stamp(&mut self, word: Word) -> Result<(), Refusal> {

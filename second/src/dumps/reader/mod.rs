@@ -39,30 +39,46 @@ struct Refusal {
 
 /// Samples the frames of a dump. They stand in front of `frames`; everything behind them is left as it was.
 pub fn load(dump: &[u8], wires: &[u64], frames: &mut [u32]) -> Loaded {
-    if frames.len() % FRAME_WORDS != 0 || frames.len() / FRAME_WORDS > MOST_FRAMES {
-        return Loaded { refusal: 4, frames: 0, line: 0, identifier: 0 };
-    }
-    if wires.len() != TABLE_WORDS {
-        return Loaded { refusal: 5, frames: 0, line: 0, identifier: 0 };
+    load_part(dump, wires, frames, true)
+}
+
+/// As `load`, for a whole dump, or for the front of one that goes on: there the words are read that have white space behind
+/// them, and what shows only at the end is not known yet.
+pub fn load_part(text: &[u8], wires: &[u64], frames: &mut [u32], is_whole: bool) -> Loaded {
+    if let Some(refusal) = refused_lengths(wires.len(), frames.len()) {
+        return Loaded { refusal, frames: 0, line: 0, identifier: 0 };
     }
     let mut sampler = Sampler::new(wires, frames);
-    let read = read(Words::new(dump), wires, &mut sampler);
+    let words = Words::new(if is_whole { text } else { words::ended(text) });
+    let read = read(words, wires, &mut sampler, is_whole);
     let frames = sampler.sampled();
     match read {
-        Ok(()) => Loaded { refusal: 0, frames, line: 0, identifier: 0 },
-        Err(refusal) => {
-            let line = words::line(dump, refusal.place);
+        Err(refusal) if is_whole || !matches!(refusal.place, Place::End) => {
+            let line = words::line(text, refusal.place);
             Loaded { refusal: refusal.number, frames, line, identifier: refusal.identifier }
         }
+        _ => Loaded { refusal: 0, frames, line: 0, identifier: 0 },
     }
 }
 
-fn read(mut words: Words, table: &[u64], sampler: &mut Sampler) -> Result<(), Refusal> {
+/// The refusal of what is lent, which comes before anything is read.
+pub fn refused_lengths(wires: usize, frames: usize) -> Option<u32> {
+    if frames % FRAME_WORDS != 0 || frames / FRAME_WORDS > MOST_FRAMES {
+        return Some(4);
+    }
+    (wires != TABLE_WORDS).then_some(5)
+}
+
+fn read(mut words: Words, table: &[u64], sampler: &mut Sampler, is_whole: bool) -> Result<(), Refusal> {
     let mut declarations = Declarations::new(&mut words);
     let end = declarations.read()?;
     let mut declared = declarations.declared;
     if !declared.connect(table) {
         return Err(end.refused(13));
     }
-    Changes { words, declared: &declared, sampler }.read()
+    Changes { words, declared: &declared, sampler }.read()?;
+    if is_whole {
+        sampler.end()?;
+    }
+    Ok(())
 }

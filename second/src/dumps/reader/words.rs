@@ -37,6 +37,12 @@ const fn is_space(byte: u8) -> bool {
     byte <= b' ' && (byte == b' ' || (byte >= 9 && byte <= 13))
 }
 
+/// The text without a last word that nothing stands behind.
+pub fn ended(text: &[u8]) -> &[u8] {
+    let end = text.iter().rposition(|byte| is_space(*byte)).map_or(0, |last| last + 1);
+    &text[..end]
+}
+
 pub struct Words<'a> {
     text: &'a [u8],
     at: usize,

@@ -4,10 +4,10 @@ use Rattle.marks_dump.proofs.reading.read_blocks.Statement.{statement}
 use Rattle.marks_dump.proofs.reading.read_blocks.Tie as tie
 
 abbrev Inv-loop : tie.InvT-loop
-Inv-loop store₀ digits₀ frames₀ b₀ turns₀ store digits frames b turns = Unit {0}
+Inv-loop frames₀ b₀ turns₀ frames b turns = Unit {0}
 
 abbrev μ-loop : tie.MeasureT-loop
-μ-loop store₀ digits₀ frames₀ b₀ turns₀ store digits frames b turns = turns
+μ-loop frames₀ b₀ turns₀ frames b turns = turns
 
 loop-holds : tie.Need-loop-holds Inv-loop μ-loop
 loop-holds c = search needs

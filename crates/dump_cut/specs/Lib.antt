@@ -1,0 +1,2 @@
+-- What the claims on cutting say.
+pub mod Cutting
