@@ -1,2 +1,4 @@
 pub mod Lengths
+pub mod SoFar
+pub mod Worked
 pub mod Cutting

@@ -1,5 +1,5 @@
--- What document 02, §11, says of a dump in pieces: `Uncut` and `Stands`. Both are proved by `proofs/Cutting.antt`, `uncut` over the list of pieces, and both are about the
--- definitions that the contracts of the calls have. Assumes nothing.
+-- What document 02, §11, says of a dump in pieces: `EveryCut`, `EachPiece` and `Over`. They are about the definitions that the contracts of the calls have, and are proved by
+-- `every-cut`, `each-piece` and `over` of `proofs/Cutting.antt`, the first two over the list of pieces. Assumes nothing.
 use mathlib.Core.Path.{_≡_}
 use mathlib.Core.List.{List, [], _∷_, _++_}
 use Prim.Native.Nat.{ℕ, _^_, _-_, _≤_}
@@ -8,7 +8,8 @@ use Rattle.dump.specs.Load.{Answer, load, filled}
 use Rattle.dump_gathered.specs.Gathered.{Bytes}
 use Rattle.dump_load.specs.declared.answer.Loaded.{Loaded}
 use Rattle.dump_state.specs.declared.state.State.{State}
-use Rattle.dump_state.specs.Pieces.{begun, Given, pieceOf, endOf}
+use Rattle.dump_state.specs.Pieces.{begun, Given, again, pieceOf, endOf}
+use Rattle.dump_cut.specs.SoFar.{loadSoFar}
 
 -- ---- "for every way of cutting a dump"
 
@@ -17,10 +18,18 @@ unfoldable pub joined : List (List ℕ) → List ℕ
 joined [] = []
 joined (piece ∷ pieces) = piece ++ joined pieces
 
--- "Given the last state and the same frames each time": a call for each piece, and the end
-unfoldable pub inPieces : State → List (List ℕ) → List ℕ → Given
-inPieces s [] frames = endOf s frames
-inPieces s (piece ∷ pieces) frames = inPieces (pieceOf s piece frames .read .state) pieces (pieceOf s piece frames .frames)
+-- before the first call: the state that `begin` gives, and the frames that are lent to each call
+abbrev pub before : List ℕ → List ℕ → Given
+before wires lent = record { read = again (begun wires); frames = lent }
+
+-- "Given the last state and the same frames each time": a call for each piece, and what the last one gives
+unfoldable pub through : Given → List (List ℕ) → Given
+through g [] = g
+through g (piece ∷ pieces) = through (pieceOf (g .read .state) piece (g .frames)) pieces
+
+-- and the end
+abbrev pub ends : Given → Given
+ends g = endOf (g .read .state) (g .frames)
 
 -- "the frames, their count, the refusal, its line and its identifier are those of the uncut dump"
 pub record Uncut (whole : Answer) (lent : List ℕ) (g : Given) : Type 0 where
@@ -34,7 +43,13 @@ pub record Uncut (whole : Answer) (lent : List ℕ) (g : Given) : Type 0 where
 abbrev pub EveryCut : Type 0
 EveryCut =
     (dump wires lent : List ℕ) (pieces : List (List ℕ)) → joined pieces ≡ dump → Bytes dump → length dump ≤ 2 ^ 64 - 2
-    → Uncut (load dump wires lent) lent (inPieces (begun wires) pieces lent)
+    → Uncut (load dump wires lent) lent (ends (through (before wires lent) pieces))
+
+-- before the end: the last piece gives what the words say that have ended in all of them together
+abbrev pub EachPiece : Type 0
+EachPiece =
+    (dump wires lent piece : List ℕ) (pieces : List (List ℕ)) → joined (piece ∷ pieces) ≡ dump → Bytes dump → length dump ≤ 2 ^ 64 - 2
+    → Uncut (loadSoFar dump wires lent) lent (through (before wires lent) (piece ∷ pieces))
 
 -- ---- "A piece or an end after an accepted end is refusal 17; after any other refusal each further call gives that refusal again. Both alter nothing."
 

@@ -1,2 +1,3 @@
 -- What the claims on cutting say.
+pub mod SoFar
 pub mod Cutting

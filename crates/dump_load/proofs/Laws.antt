@@ -54,7 +54,7 @@ module _ (dump wires frames : List ℕ) (r : Reader) (store digits : List ℕ) (
   leaves = ap (λ (x : All). x .frames) all
 
 -- THE CALL: the two refusals by length, and what is read
-same-fit : (lent : List ℕ) → traceFits lent ≡ fits (length lent)
+pub same-fit : (lent : List ℕ) → traceFits lent ≡ fits (length lent)
 unfolding traceFits frames fits
 same-fit lent = go (eqb (length lent % 8) 0) (leb (length lent / 8) 65536)
   where

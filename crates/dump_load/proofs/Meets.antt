@@ -44,7 +44,7 @@ pub record Meets (lent : List ℕ) (z : All) (a : L.Answer) : Type 0 where
 abbrev answerTo : L.Reading → L.Answer
 answerTo r = record { refusal = r .state .place - 100; line = r .line; identifier = r .state .identifier; frames = r .state .changed .frames }
 
-dead-meets : (lent : List ℕ) (c : Core) (r : L.Reading) → Dead lent c r → Meets lent (allOf c []) (answerTo r)
+pub dead-meets : (lent : List ℕ) (c : Core) (r : L.Reading) → Dead lent c r → Meets lent (allOf c []) (answerTo r)
 unfolding answered refused placeOf
 dead-meets lent c r d =
     let small : due c - 100 < 2 ^ 32 = omega (arith, d .high) in
@@ -196,10 +196,10 @@ module _ (wires lent : List ℕ) where
     starts : Alike wires lent (record { reader = firstReader; store = store; digits = digits; frames = lent }) m₀ 0
     starts = alive (record { core = first; all-is = refl; lives = in-declarations first-declares; line-is = refl; started-is = refl; bytes = tt })
 
-  alike-first : length wires ≡ 258 → Alike wires lent (firstAll wires lent) m₀ 0
+  pub alike-first : length wires ≡ 258 → Alike wires lent (firstAll wires lent) m₀ 0
   alike-first e = starts (tableFrom (replicate 8468 0) wires 0 258) (replicate 4096 0) (fresh-start wires e) (length-replicate {A = ℕ} 4096 0)
 
-  read-meets : (dump : List ℕ) → Bytes dump → length dump ≤ 2 ^ 64 - 2 → length wires ≡ 258 → Meets lent (readAll dump wires lent) (L.read (pairs wires) (length lent / 8) dump)
+  pub read-meets : (dump : List ℕ) → Bytes dump → length dump ≤ 2 ^ 64 - 2 → length wires ≡ 258 → Meets lent (readAll dump wires lent) (L.read (pairs wires) (length lent / 8) dump)
   unfolding readAll L.read
   read-meets dump g l e =
       rw (← count-is (pairs wires) (length lent / 8) dump, ← fed-words (pairs wires) (length lent / 8) dump)
