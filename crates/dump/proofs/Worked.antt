@@ -11,4 +11,4 @@ use Rattle.dump.specs.Worked.{zeros, times, table, loaded, Worked}
 
 pub worked : Worked
 unfolding frames traceFits cutting words lineCount digits isNumber value same oneOf isCode codeOf rightEnd leftEnd bracket nameEnd inName nameRange fits opens closes declares onCommand onScale onScopeName onVarType onWidth indexOf agrees onVarCode named onVarName declareNew declareAgain declare onVarEnd onRange pairs good allGood goodTable atFirst digitPlace digitAt changedTo packed frameOf rose valueOf allValues closing stampAt onStamp changeBits onScalar onVectorCode onRealCode onVector onReal onDollar onChange onLastEnd step readWord readWords finish reading read load joinedFrames filled zeros times table loaded
-worked = record { both-orders = refl; unknown = refl; equal-stamps = refl; names = refl; vector-clock = refl; no-stamp = refl; lengths = (refl, refl); ill-formed = refl; not-declared = refl; other-width = (refl, refl); unfinished = (refl, refl); scopes = refl; long = (refl, refl); not-connected = (refl, refl); back = refl; full = refl; full-at-the-end = refl }
+worked = record { both-orders = refl; unknown = refl; equal-stamps = refl; names = refl; vector-clock = refl; no-stamp = refl; lengths = (refl, refl); ill-formed = refl; not-declared = refl; other-width = (refl, refl); unfinished = (refl, refl); scopes = refl; long = (refl, refl); not-connected = (refl, refl); real-connected = refl; back = refl; full = refl; full-at-the-end = refl }

@@ -121,6 +121,8 @@ pub record Worked : Type 0 where
   pub not-connected :
       (loaded (clock "!" ∷ p0 "d" 4 ∷ []) 8 (bytes "$var wire 1 ! c $end $var reg 4 d b [3:0] $end $enddefinitions\n$end #0 0!") ≡ no 13 2 [])
       × (loaded [] 8 declarations ≡ no 13 3 [])
+  -- A real is declared, but not as bits: to connect one is 13.
+  pub real-connected : loaded (clock "!" ∷ p0 "f" 0 ∷ []) 8 (bytes "$var wire 1 ! clk $end\n$var real 64 f level $end\n$enddefinitions $end\n#0 r1 f\n") ≡ no 13 3 []
   -- 14 at a stamp that goes back: it takes no sample
   pub back : loaded bus 8 (declarations ++ bytes "#0 0!\n#2 1!\n#1\n") ≡ no 14 6 []
   -- 16 at what closes the stamp of the second sample: the first frame stays
