@@ -1,4 +1,6 @@
 // A bench: one step of every checker of a lent table, in two loops over it.
+#![tactic(auto)]
+
 mod table;
 
 pub use table::{step_all, test_all};

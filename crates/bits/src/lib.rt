@@ -1,4 +1,6 @@
 // Bits of words: words of given bits, and wires cut out of a word.
+#![tactic(auto)]
+
 mod cut;
 mod mask;
 

@@ -1,4 +1,6 @@
 // Where the blocks of a recheck end, and whether there is one more.
+#![tactic(auto)]
+
 mod block;
 mod stop;
 

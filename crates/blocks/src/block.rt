@@ -10,7 +10,7 @@ use rules::{Config, Frame};
 use trace::{Stretch, frame_at, frames_in};
 
 // How many cycles a block has, how many of them have mark 1 or 2, and the word before the cycle behind it.
-#[derive(Drop)]
+#[derive(Clone, Copy)]
 pub struct BlockRun {
     pub cycles: usize,
     pub marked: usize,
@@ -50,7 +50,7 @@ pub fn run_block(
 }
 
 // What the entries of a cycle are found from.
-#[derive(Drop)]
+#[derive(Clone, Copy)]
 pub struct Cycle {
     pub t: usize,
     pub word: u64,

@@ -1,4 +1,6 @@
 // Blocks of cycles: run, and their entries counted and written.
+#![tactic(auto)]
+
 mod block;
 mod count;
 mod write;

@@ -7,7 +7,7 @@ use bits::{ascending, descending, downward, masked, masked_ascending, upward};
 
 // The ends of a port's declaration, as in Verilog: the wire `left` is the most significant.
 #[repr(C)]
-#[derive(Drop)]
+#[derive(Clone, Copy)]
 pub struct Range {
     pub left: u8,
     pub right: u8,

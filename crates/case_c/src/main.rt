@@ -1,5 +1,7 @@
 // Case C of the whiteboard table: a cycle sequence of kind 1 over four wires declared [0:3], stepped through its six samples. Writes the row and the open
 // word of each cycle.
+#![tactic(auto)]
+
 use bus::Range;
 use checker::Monitor;
 use libc::STDOUT_FILENO;

@@ -6,7 +6,7 @@ use open_words::refusal;
 use rules::{Config, STOPPED};
 
 // The refusal number or 0, and the count, which is 0 where it is refused.
-#[derive(Drop)]
+#[derive(Clone, Copy)]
 pub struct OpenCount {
     pub refusal: u32,
     pub count: u32,

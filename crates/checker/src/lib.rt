@@ -1,4 +1,6 @@
 // What the viewer calls on one checker: a step by value, and the open count.
+#![tactic(auto)]
+
 mod count;
 mod monitor;
 

@@ -6,14 +6,14 @@ use open_words::refusal;
 use rules::{Config, Frame};
 
 // A checker with its open word.
-#[derive(Drop)]
+#[derive(Clone, Copy)]
 pub struct Monitor {
     pub config: Config,
     pub word: u64,
 }
 
 // A step's answer: the refusal number or 0, the cycle's row, and the monitor with the next word. Refused: row 0, and the monitor as it was.
-#[derive(Drop)]
+#[derive(Clone, Copy)]
 pub struct Stepped {
     pub refusal: u32,
     pub row: u32,

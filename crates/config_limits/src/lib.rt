@@ -1,4 +1,6 @@
 // The limits of a configuration's numbers.
+#![tactic(auto)]
+
 mod limits;
 
 pub use limits::within_limits;

@@ -1,4 +1,6 @@
 // Counts of the marks of rows.
+#![tactic(auto)]
+
 mod rows;
 mod total;
 

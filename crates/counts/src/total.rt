@@ -5,7 +5,7 @@ use super::rows::marks_in;
 use rules::MARKS;
 
 // The refusal number or 0, and how many rows have each mark; refused: 0 of each.
-#[derive(Drop)]
+#[derive(Clone, Copy)]
 pub struct MarkTotals {
     pub refusal: u32,
     pub counts: [u32; MARKS],

@@ -1,4 +1,6 @@
 // What the steps of all families have in common: reset and enable, the words of a frame as they are read, the row of marks, and what a step leaves.
+#![tactic(auto)]
+
 mod marks;
 mod outcome;
 mod reset;

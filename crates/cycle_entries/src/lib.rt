@@ -1,4 +1,6 @@
 // The entries of one cycle of a trace: how many there are, and their words in the list.
+#![tactic(auto)]
+
 mod kinds;
 mod lost;
 

@@ -1,4 +1,6 @@
 // Kind 6 with descending ports: runs of a stretch.
+#![tactic(auto)]
+
 mod descending_fill;
 mod descending_seek;
 

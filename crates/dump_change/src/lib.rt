@@ -1,4 +1,6 @@
 // The changes of a dump and its samples: what is known between two words, and one function for each word that may be due.
+#![tactic(auto)]
+
 mod bits;
 mod dollar;
 mod sample;

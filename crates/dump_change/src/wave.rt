@@ -3,7 +3,7 @@ ghost use Rattle.std.specs.Prelude.{◌≡◌};
 ghost use Rattle.dump_change.specs.Change.{at, unknown_code};
 
 #[repr(C)]
-#[derive(Drop)]
+#[derive(Clone, Copy)]
 pub struct Wave {
     // The word that is due; 100 and the refusal.
     pub place: u64,

@@ -3,7 +3,7 @@ ghost use Rattle.std.specs.Prelude.{◌≡◌};
 ghost use Rattle.dump_declare.specs.Declare.{at, commanded, named};
 
 #[repr(C)]
-#[derive(Drop)]
+#[derive(Clone, Copy)]
 pub struct Head {
     // The word that is due; 20 behind the declarations; 100 and the refusal.
     pub place: u64,

@@ -1,4 +1,6 @@
 // The declarations of a dump: what is known between two words, and one function for each word that may be due.
+#![tactic(auto)]
+
 mod codes;
 mod commands;
 mod head;

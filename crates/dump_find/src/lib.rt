@@ -1,5 +1,7 @@
 // The place of an identifier code among those declared. Codes stand in the first 1,024 words of a reader's store, and 2,048 words from word 6,144 on
 // hold for some codes the place where they were put: a hint, which is checked, so that nothing has to be known of it.
+#![tactic(auto)]
+
 ghost use Rattle.std.specs.Prelude.{◌≡◌, ◌≤◌, ◌<◌, length, take};
 ghost use Rattle.dump.specs.Declarations.{index_of};
 ghost use Rattle.dump_find.specs.Find.{slot, bounded, lookup, hinted};

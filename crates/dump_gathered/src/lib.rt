@@ -1,1 +1,3 @@
 // What is kept of a word, byte by byte, against the whole word: claims, with no code.
+#![tactic(auto)]
+

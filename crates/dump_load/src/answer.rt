@@ -5,7 +5,7 @@ ghost use Rattle.dump_load.specs.Loading.{refused_with, answered};
 use dump_reader::{Reader, place_of};
 
 #[repr(C)]
-#[derive(Drop)]
+#[derive(Clone, Copy)]
 pub struct Loaded {
     pub refusal: u32,
     // How many frames were sampled.

@@ -1,4 +1,6 @@
 // Loading a dump: a reader is begun, one piece is read, and the text is ended.
+#![tactic(auto)]
+
 mod answer;
 mod begin;
 mod load;

@@ -11,7 +11,7 @@ use dump_values::change_bits;
 use dump_words::{Number, Text, add_text, text_is};
 
 #[repr(C)]
-#[derive(Drop)]
+#[derive(Clone, Copy)]
 pub struct Changes {
     pub at: usize,
     // As a reader has them.

@@ -1,4 +1,6 @@
 // A reader of dumps, byte by byte: its state, a word that is begun, goes on and ends, the bytes of a piece, and the end of the text.
+#![tactic(auto)]
+
 mod changes;
 mod ending;
 mod piece;

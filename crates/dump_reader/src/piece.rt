@@ -87,7 +87,7 @@ fn open_word(held: u64) -> Word
 }
 
 #[repr(C)]
-#[derive(Drop)]
+#[derive(Clone, Copy)]
 pub struct Position {
     pub at: usize,
     pub reader: Reader,

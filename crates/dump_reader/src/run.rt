@@ -9,7 +9,7 @@ use dump_change::value_of;
 use dump_words::{Number, Text, add_digit, add_text};
 
 #[repr(C)]
-#[derive(Drop)]
+#[derive(Clone, Copy)]
 pub struct TextRun {
     pub at: usize,
     pub text: Text,
@@ -33,7 +33,7 @@ pub fn text_run(first: Text, bytes: &[u8], from: usize) -> TextRun
 }
 
 #[repr(C)]
-#[derive(Drop)]
+#[derive(Clone, Copy)]
 pub struct NumberRun {
     pub at: usize,
     pub number: Number,
@@ -57,7 +57,7 @@ pub fn number_run(first: Number, bytes: &[u8], from: usize) -> NumberRun
 }
 
 #[repr(C)]
-#[derive(Drop)]
+#[derive(Clone, Copy)]
 pub struct VectorRun {
     pub at: usize,
     pub count: usize,

@@ -8,7 +8,7 @@ use dump_change::Wave;
 use dump_declare::Head;
 
 #[repr(C)]
-#[derive(Drop)]
+#[derive(Clone, Copy)]
 pub struct Reader {
     // 1 and the number of bytes 10 so far.
     pub line: u64,

@@ -8,7 +8,7 @@ use dump_change::value_of;
 use dump_words::{Number, Scan, Text, add_digit, add_scan, add_text};
 
 #[repr(C)]
-#[derive(Drop)]
+#[derive(Clone, Copy)]
 pub struct Word {
     // 0 no word, 1 a text, 2 a number, 3 a text and the range at its end, 4 the digits of a vector.
     pub class: u64,

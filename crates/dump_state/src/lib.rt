@@ -1,4 +1,6 @@
 // A dump that arrives in pieces: what a reader keeps from call to call, the state before the first piece, and what every call tests before it reads.
+#![tactic(auto)]
+
 mod begins;
 mod state;
 mod tests;

@@ -4,7 +4,7 @@ use dump_reader::Reader;
 
 // Every byte belongs to a number, so that any bytes are a state, and a state that is given back as it was has the same bytes.
 #[repr(C)]
-#[derive(Drop)]
+#[derive(Clone, Copy)]
 pub struct State {
     // The answer that stands, with the three numbers behind the next one: where its refusal is not 0, each further call gives it again and alters nothing.
     pub refusal: u32,
@@ -20,7 +20,7 @@ pub struct State {
 
 // What a piece and the end give.
 #[repr(C)]
-#[derive(Drop)]
+#[derive(Clone, Copy)]
 pub struct Read {
     pub state: State,
     pub answer: Loaded,

@@ -1,4 +1,6 @@
 // What a reader of dumps keeps of the word that it reads: a bounded part, from which everything that is asked of a word follows.
+#![tactic(auto)]
+
 mod number;
 mod scan;
 mod text;

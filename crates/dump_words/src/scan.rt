@@ -5,7 +5,7 @@ ghost use Rattle.dump_words.specs.Gather.{scan_add, counts_after, left_digit, le
 use crate::number::{Number, add_digit};
 
 #[repr(C)]
-#[derive(Drop)]
+#[derive(Clone, Copy)]
 pub struct Scan {
     // 0 a name, 1 a name that begins with a backslash, 2 a word that is a range from its first byte on.
     pub kind: u64,

@@ -3,7 +3,7 @@ ghost use Rattle.std.specs.Prelude.{◌≡◌};
 ghost use Rattle.dump_words.specs.Gather.{text_add, plain_after, text_is, text_in};
 
 #[repr(C)]
-#[derive(Drop)]
+#[derive(Clone, Copy)]
 pub struct Text {
     // 17 stands for every greater length.
     pub length: u64,

@@ -1,4 +1,6 @@
 // The samples of an edit: their refusal, and their exchange with those of the trace.
+#![tactic(auto)]
+
 mod refusal;
 mod swap;
 

@@ -10,7 +10,7 @@ use rules::{Config, FRAME_WORDS, MARKS};
 
 // The answers of two rechecks: after an edit, and after it was taken back.
 #[repr(C)]
-#[derive(Drop)]
+#[derive(Clone, Copy)]
 pub struct BothResults {
     pub edit: RecheckResult,
     pub back: RecheckResult,

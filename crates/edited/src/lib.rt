@@ -1,4 +1,6 @@
 // Callers of full check and recheck. Their proofs use the contracts of the calls alone. Here: one that checks a trace, changes one cycle of it and rechecks.
+#![tactic(auto)]
+
 mod back;
 
 ghost use Rattle.std.specs.Prelude.{◌<◌};

@@ -7,7 +7,7 @@ use rules::Config;
 use trace::frames_in;
 
 // The refusal number or 0, and how many entries the list has; refused: 0.
-#[derive(Drop)]
+#[derive(Clone, Copy)]
 pub struct FailureCount {
     pub refusal: u32,
     pub count: usize,

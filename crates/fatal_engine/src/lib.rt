@@ -1,4 +1,6 @@
 // One run of a stretch of a fatal checker, for a configuration and an open word that were tested.
+#![tactic(auto)]
+
 mod run;
 
 pub use run::run_fatal;

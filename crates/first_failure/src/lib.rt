@@ -1,4 +1,6 @@
 // The first failure over the rows of several checkers.
+#![tactic(auto)]
+
 mod search;
 
 pub use search::{FirstFailure, first_failure};

@@ -5,7 +5,7 @@ ghost use Rattle.first_failure.specs.Search.{search_refusal, refusal_of, is_foun
 use fatal::fails;
 
 // A refusal; or that no row has mark 1 or 2; or the checker and the cycle of the first that has.
-#[derive(Drop)]
+#[derive(Clone, Copy)]
 pub enum FirstFailure {
     Refused(u32),
     Nothing,

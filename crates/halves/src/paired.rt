@@ -10,7 +10,7 @@ use tally::Tally;
 // Sums over two stretches of rows side by side, the one in the low 16 bits of a word and the other in the high 16: so a mask and a sum for each mark take two
 // rows at once. A sum takes the mark's bit as it stands in the rows: each half of entry i is 2^i times a count of mark i, and the shift is made once for all
 // rows. With 1,024 rows in a stretch no half overflows, while there are at most 6 marks.
-#[derive(Drop)]
+#[derive(Clone, Copy)]
 struct Paired {
     sums: [u32; MARKS],
 }

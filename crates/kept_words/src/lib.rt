@@ -1,4 +1,6 @@
 // The lowest impossible word of a record.
+#![tactic(auto)]
+
 mod scan;
 
 pub use scan::first_impossible;

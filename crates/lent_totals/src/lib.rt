@@ -1,4 +1,6 @@
 // The totals, with a number for each mark in a lent slice.
+#![tactic(auto)]
+
 mod marks;
 
 pub use marks::totals_into;

@@ -1,4 +1,6 @@
 // Reads a VCD dump on standard input, checks what it samples with the checker that its arguments ask for, and writes the marks of every cycle.
+#![tactic(auto)]
+
 mod checking;
 
 use checking::print_check;

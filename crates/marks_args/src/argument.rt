@@ -6,7 +6,7 @@ use crate::text::{number_of, text_of};
 use dump_words::Text;
 
 // A number or a code, or what is wrong with the argument: then the value is 0.
-#[derive(Drop)]
+#[derive(Clone, Copy)]
 pub struct Value {
     pub fault: u32,
     pub value: u64,

@@ -1,4 +1,6 @@
 // The arguments of the program `marks`: the table of connections, and a checker.
+#![tactic(auto)]
+
 mod argument;
 mod faults;
 mod options;

@@ -25,7 +25,7 @@ pub const SEVERITY: u32 = 8;
 
 pub const NO_OPTION: u32 = 9;
 
-#[derive(Drop)]
+#[derive(Clone, Copy)]
 pub struct Settings {
     // What is wrong with the arguments, or 0.
     pub fault: u32,

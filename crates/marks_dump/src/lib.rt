@@ -1,4 +1,6 @@
 // The dump on standard input, read in blocks into frames, and wires that are not connected taken as 1.
+#![tactic(auto)]
+
 mod reading;
 mod taken;
 

@@ -5,7 +5,7 @@ use dump_state::{State, begin};
 use libc::STDIN_FILENO;
 
 // A reader behind a block: whether there is more to read, and whether the system refused to read.
-#[derive(Drop)]
+#[derive(Clone, Copy)]
 struct Block {
     pub more: bool,
     pub failed: bool,
@@ -13,7 +13,7 @@ struct Block {
 }
 
 // What the whole dump gives, and whether the system refused to read it.
-#[derive(Drop)]
+#[derive(Clone, Copy)]
 pub struct Dump {
     pub failed: bool,
     pub loaded: Loaded,

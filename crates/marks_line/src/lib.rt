@@ -1,5 +1,7 @@
 // A line of a table, built in an array of 256 bytes and written by one call. `at` is the place behind what the line has so far; a function answers the next
 // such place. What does not fit is left out.
+#![tactic(auto)]
+
 mod bits;
 mod line;
 mod number;

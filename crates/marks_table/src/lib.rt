@@ -1,4 +1,6 @@
 // What the program `marks` writes of a checked trace: a line for each cycle, the failures, and the totals.
+#![tactic(auto)]
+
 mod failures_list;
 mod names;
 mod rows;

@@ -1,4 +1,6 @@
 // What the program `marks` says in words: how it is used, what is wrong with its arguments, its refusals, and the head of its table.
+#![tactic(auto)]
+
 mod head;
 mod refusals;
 mod usage;

@@ -1,4 +1,6 @@
 // One checker of a bench's table.
+#![tactic(auto)]
+
 mod checker;
 
 pub use checker::{step_one, test_one};

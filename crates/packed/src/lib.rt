@@ -1,4 +1,6 @@
 // The open count and the first failure, with the numbers of an answer packed into one.
+#![tactic(auto)]
+
 mod count;
 mod search;
 

@@ -1,4 +1,6 @@
 // The two passes of the failure list over a trace: one counts the entries, one writes them.
+#![tactic(auto)]
+
 mod count;
 mod write;
 

@@ -12,7 +12,7 @@ use signed_changes::changes_of;
 // The refusal number or 0, the lowest cycle whose kept word is impossible where that is why it is refused (7), else 0; the cycle where the recheck ended, and by
 // how much each mark's count changed; refused: both 0.
 #[repr(C)]
-#[derive(Drop)]
+#[derive(Clone, Copy)]
 pub struct RecheckResult {
     pub refusal: u32,
     pub cycle: usize,

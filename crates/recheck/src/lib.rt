@@ -1,4 +1,6 @@
 // The recheck after an edit.
+#![tactic(auto)]
+
 mod edit;
 
 pub use edit::{RecheckResult, recheck};

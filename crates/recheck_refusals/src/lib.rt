@@ -1,4 +1,6 @@
 // The refusals of a recheck.
+#![tactic(auto)]
+
 mod tests;
 
 pub use tests::{Tested, recheck_refusal};

@@ -7,7 +7,7 @@ use lengths::lengths_refusal;
 use rules::Config;
 
 // The refusal number or 0, and with 7 the lowest cycle whose word is impossible, else 0.
-#[derive(Drop)]
+#[derive(Clone, Copy)]
 pub struct Tested {
     pub refusal: u32,
     pub cycle: usize,

@@ -1,4 +1,6 @@
 // A trace's record: the full check.
+#![tactic(auto)]
+
 mod check;
 
 pub use check::full_check;

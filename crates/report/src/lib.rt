@@ -1,4 +1,6 @@
 // What the programs write to standard output.
+#![tactic(auto)]
+
 ghost use Rattle.std.specs.Prelude.{pos, ◌<ℤ◌};
 
 use failures::FailureCount;

@@ -9,7 +9,7 @@ use tally::Tally;
 use trace::Stretch;
 
 // Where a run ended, and 65,536 more than each mark's change: so no count falls below 0 on the way.
-#[derive(Drop)]
+#[derive(Clone, Copy)]
 pub struct Run {
     pub end: usize,
     pub tally: Tally,

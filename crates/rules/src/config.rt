@@ -19,7 +19,7 @@ pub const FATAL: u8 = 1;
 // The kind, num_cks or max, the declared ranges of the ports P, Q and R, of kinds 7 and 8 min and the expected value, 0 where unused, and the severity: 0 goes on
 // after a failure, 1 is fatal.
 #[repr(C)]
-#[derive(Drop)]
+#[derive(Clone, Copy)]
 pub struct Config {
     pub kind: u8,
     pub n: u32,

@@ -4,7 +4,7 @@
 pub const FRAME_WORDS: usize = 8;
 
 // The words of 32 wires: reset, P, Q, R, and in the same order the unknown bits of each, 1 where a wire is x or z.
-#[derive(Drop)]
+#[derive(Clone, Copy)]
 pub struct Frame {
     pub samples: [u32; FRAME_WORDS],
 }

@@ -1,4 +1,6 @@
 // The rules of the checkers: configurations and frames, and, in specs/, what a checker marks.
+#![tactic(auto)]
+
 mod config;
 mod frame;
 mod marks;

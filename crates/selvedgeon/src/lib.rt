@@ -1,4 +1,6 @@
 // What the C host calls: the proved calls, on numbers and lent slices.
+#![tactic(auto)]
+
 mod calls;
 mod numbers;
 mod step;

@@ -1,4 +1,6 @@
 // What the C host calls to read dumps: the proved calls, on lent slices and a state by value.
+#![tactic(auto)]
+
 mod loads;
 mod readers;
 

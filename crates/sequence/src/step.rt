@@ -19,7 +19,7 @@ use trace::frame_at;
 
 // The events of a cycle: reset_n, and, in the order in which an attempt meets them, those that are 1 and those that are unknown. Above the n events are
 // other wires, at which no step looks.
-#[derive(Drop)]
+#[derive(Clone, Copy)]
 pub struct Events {
     pub up: bool,
     pub seen: u64,

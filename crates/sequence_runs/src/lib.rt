@@ -1,4 +1,6 @@
 // Kinds 0 to 2: runs of a stretch.
+#![tactic(auto)]
+
 mod fill;
 mod seek;
 

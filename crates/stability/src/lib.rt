@@ -1,4 +1,6 @@
 // Kind 8, stability after a trigger: one step.
+#![tactic(auto)]
+
 mod step;
 
 pub use step::{

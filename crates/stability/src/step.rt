@@ -15,7 +15,7 @@ use trace::frame_at;
 use trigger::{is_tested, sees_trigger};
 
 // What is seen of a cycle first: reset_n and, out of reset, enable, and whether there is a trigger.
-#[derive(Drop)]
+#[derive(Clone, Copy)]
 pub struct Seen {
     pub up: bool,
     pub enabled: bool,
@@ -23,7 +23,7 @@ pub struct Seen {
 }
 
 // The tracked value, and whether every bit of it is known: only then does a step use it.
-#[derive(Drop)]
+#[derive(Clone, Copy)]
 pub struct Tracked {
     pub value: u32,
     pub known: bool,

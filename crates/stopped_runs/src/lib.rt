@@ -1,4 +1,6 @@
 // A fatal checker that has failed: runs of a stretch.
+#![tactic(auto)]
+
 mod fill;
 mod run;
 mod seek;

@@ -6,7 +6,7 @@ ghost use Rattle.rules.specs.Rules.{marks};
 use rules::MARKS;
 
 // How often each mark was met: entry i counts the mark 2^i.
-#[derive(Drop)]
+#[derive(Clone, Copy)]
 pub struct Tally {
     pub counts: [u32; MARKS],
 }

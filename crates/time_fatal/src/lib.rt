@@ -1,4 +1,6 @@
 // Kinds 3 to 5: runs of a stretch, of a fatal checker.
+#![tactic(auto)]
+
 mod fill;
 mod run;
 mod seek;

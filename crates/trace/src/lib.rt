@@ -1,4 +1,6 @@
 // A lent trace as frames, and stretches of it.
+#![tactic(auto)]
+
 mod frame;
 mod stretch;
 

@@ -4,7 +4,7 @@ ghost use Rattle.trace.specs.Stretches.{kept_from};
 
 // Entries `at` to `to` - 1 of the rows and words, where entry k is cycle `from` + k; whether the run stops where its word is the kept one; and the run's own
 // word and the kept one before entry `at`.
-#[derive(Drop)]
+#[derive(Clone, Copy)]
 pub struct Stretch {
     pub from: usize,
     pub at: usize,
@@ -15,7 +15,7 @@ pub struct Stretch {
 }
 
 // The entry that a run has come to, and the two words before it.
-#[derive(Drop)]
+#[derive(Clone, Copy)]
 pub struct Reached {
     pub at: usize,
     pub word: u64,

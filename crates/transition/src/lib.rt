@@ -1,4 +1,6 @@
 // Kind 6, transition: one step.
+#![tactic(auto)]
+
 mod step;
 
 pub use step::{

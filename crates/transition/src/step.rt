@@ -12,7 +12,7 @@ use rules::{Config, Frame};
 use trace::frame_at;
 
 // What the ports hold in a cycle, as it was sampled: P the test, Q the start state, R the next state. Where a port is not known its value is not used.
-#[derive(Drop)]
+#[derive(Clone, Copy)]
 pub struct Values {
     pub up: bool,
     pub test: u32,
@@ -21,7 +21,7 @@ pub struct Values {
 }
 
 // Whether every bit of each is known.
-#[derive(Drop)]
+#[derive(Clone, Copy)]
 pub struct Known {
     pub test: bool,
     pub start_state: bool,

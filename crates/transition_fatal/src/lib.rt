@@ -1,4 +1,6 @@
 // Kind 6: runs of a stretch, of a fatal checker.
+#![tactic(auto)]
+
 mod fill;
 mod run;
 mod seek;

@@ -1,4 +1,6 @@
 // Kind 6: runs of a stretch.
+#![tactic(auto)]
+
 mod fill;
 mod seek;
 

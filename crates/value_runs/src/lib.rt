@@ -1,4 +1,6 @@
 // Kind 7: runs of a stretch.
+#![tactic(auto)]
+
 mod fill;
 mod seek;
 

@@ -1,4 +1,6 @@
 // The lines of the waves: the header, and those of a cycle.
+#![tactic(auto)]
+
 mod change;
 mod cycle;
 mod header;

@@ -1,4 +1,6 @@
 // Bytes of a text, written one behind the other into a lent slice.
+#![tactic(auto)]
+
 mod number;
 mod text;
 
