@@ -1,0 +1,11 @@
+use Rattle.dump_declare.specs.Declare.{range_with}
+use mathlib.Core.Path.{◌∙◌, sym}
+use Rattle.dump_declare.proofs.vars.range_with.Goals as goal
+
+pub returns-then-numbers_fit : goal.returns-then-numbers_fit
+unfolding range_with
+returns-then-numbers_fit c = simp (c.at_range.ensures, sym c.numbers_fit.ensures ∙ c.if-numbers_fit.true)
+
+pub returns : goal.returns
+unfolding range_with
+returns c = simp (c.at_place.ensures, sym c.numbers_fit.ensures ∙ c.if-numbers_fit.false)

@@ -1,0 +1,12 @@
+use Rattle.dump_load.proofs.Laws as laws
+use Rattle.dump_load.specs.Loading.{table_from}
+use mathlib.Core.Path.{◌≡◌}
+use Prim.Native.Nat.{◌-◌}
+use lib.ListN.{length}
+use Rattle.dump_load.proofs.begin.put_table.Given as goal
+
+abbrev pub invariant-loop-k : goal.invariant-loop-k
+invariant-loop-k l = (length l.store ≡ 8468) × (table_from l.wires l.initial.store 0 258 ≡ table_from l.store l.initial.store l.k (258 - l.k))
+
+abbrev pub decreases-loop-k : goal.decreases-loop-k
+decreases-loop-k l = 258 - l.k

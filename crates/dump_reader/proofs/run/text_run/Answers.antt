@@ -1,0 +1,24 @@
+use Rattle.dump_reader.proofs.RunLaws as runs
+use mathlib.Core.Path.{refl, ◌∙◌, sym}
+use Prim.Native.Nat.{◌-◌}
+use native.Mathlib.Omega.{arith}
+use Rattle.dump_reader.proofs.Laws as laws
+use Rattle.dump_reader.proofs.state.is_blank.Reads as is-blank-reads
+use Rattle.dump_words.proofs.add_text.Reads as add-text-reads
+use Rattle.dump_reader.proofs.run.text_run.Goals as goal
+
+-- src/run.rt:28:5
+pub loop-i-init : goal.loop-i-init
+loop-i-init c = (omega arith, omega arith, λ d a g. refl)
+
+-- src/run.rt:31:13
+pub returns-then-is_blank : goal.returns-then-is_blank
+returns-then-is_blank c = (c.loop-i.invariant.0, c.loop-i.invariant.1, c.loop-i.invariant.2)
+
+-- src/run.rt:28:5
+pub loop-i-preserved : goal.loop-i-preserved
+loop-i-preserved c = (omega arith, omega arith, λ d a g. c.loop-i.invariant.2 d a g ∙ runs.text-more _ _ c.loop-i-test.true (sym c.is_blank.ensures ∙ c.if-is_blank.false) _ _ d c.add_text-text.ensures a g)
+
+-- src/run.rt:22:1
+pub returns : goal.returns
+returns c = (c.loop-i.invariant.0, c.loop-i.invariant.1, c.loop-i.invariant.2)

@@ -1,0 +1,14 @@
+use Rattle.dump_reader.specs.Runs.{vector_of, Gathers}
+use Rattle.dump_reader.proofs.RunLaws as runs
+use mathlib.Core.Path.{◌≡◌}
+use Prim.Native.Nat.{◌≤◌, ◌-◌}
+use lib.ListN.{length}
+use Rattle.dump_reader.proofs.Laws as laws
+use Rattle.dump_change.proofs.value_of.Reads as value-of-reads
+use Rattle.dump_reader.proofs.run.vector_run.Given as goal
+
+abbrev pub invariant-loop-i : goal.invariant-loop-i
+invariant-loop-i l = (l.from ≤ l.i) × (l.i ≤ length l.bytes) × (l.count ≤ 4096) × (length l.digits ≡ 4096) × Gathers l.bytes (vector_of 0) l.from l.initial.digits (vector_of l.count) l.i l.digits
+
+abbrev pub decreases-loop-i : goal.decreases-loop-i
+decreases-loop-i l = length l.bytes - l.i

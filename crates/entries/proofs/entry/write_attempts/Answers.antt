@@ -1,0 +1,56 @@
+-- `entries::entry::write_attempts` meets its contract: each turn writes the entry of the highest bit and takes the bit away. Assumes nothing.
+use Prim.Native.Nat.{◌<◌}
+use native.Mathlib.Omega.{arith}
+use lib.Pow.{pow_pos}
+use Rattle.bits.proofs.Bits.{shifted_one}
+use Rattle.listed.proofs.Highest.{highest}
+use Rattle.entries.proofs.Stored.{stored-length}
+use Rattle.entries.proofs.Writing.{writing-none, writing-all, top, top-young, room, writing_more}
+use Rattle.entries.proofs.entry.write_attempts.Goals as goal
+
+pub loop-rest-init : goal.loop-rest-init
+loop-rest-init c =
+    let a = c.args in
+    writing-none a.lost a.t a.list.now a.at c.requires.v c.ranges.lost.fits
+
+-- a word that is not 0 has a highest bit, and its attempt began after cycle 0
+some : (c : goal.In-loop-rest) → 0 < c.loop-rest.rest
+some c = omega (arith, c.loop-rest-test.true)
+
+pub overflow_sub-j : goal.overflow_sub-j
+overflow_sub-j c = (top c.loop-rest.invariant (some c)).zeros
+
+pub overflow_sub-t : goal.overflow_sub-t
+overflow_sub-t c = omega (arith, top-young c.loop-rest.invariant (some c))
+
+pub overflow_sub-t-in-loop-rest : goal.overflow_sub-t-in-loop-rest
+overflow_sub-t-in-loop-rest c = omega (arith, top-young c.loop-rest.invariant (some c))
+
+pub write_entry-next-requires : goal.write_entry-next-requires
+write_entry-next-requires c =
+    let l = c.before in
+    let s = l.before in
+    (s.requires.o, omega (arith, top-young l.loop-rest.invariant (some l)), room l.loop-rest.invariant (some l) s.requires.e)
+
+pub overflow_sub-rest : goal.overflow_sub-rest
+overflow_sub-rest c =
+    let l = c.before.before in
+    rw (shifted_one (highest 64 l.loop-rest.rest) 64 (omega arith)) (top l.loop-rest.invariant (some l)).below
+
+pub loop-rest-smaller : goal.loop-rest-smaller
+loop-rest-smaller c =
+    let l = c.before.before in
+    let h = highest 64 l.loop-rest.rest in
+    rw (shifted_one h 64 (omega arith)) (omega (arith, (top l.loop-rest.invariant (some l)).below, pow_pos h))
+
+pub loop-rest-preserved : goal.loop-rest-preserved
+loop-rest-preserved c =
+    let l = c.before.before in
+    let e = c.write_entry-next in
+    rw (shifted_one (highest 64 l.loop-rest.rest) 64 (omega arith)) (writing_more l.loop-rest.invariant (some l) e.ensures)
+
+pub shape_of-list : goal.shape_of-list
+shape_of-list c = stored-length c.loop-rest.invariant.stored
+
+pub returns : goal.returns
+returns c = writing-all c.loop-rest.invariant c.loop-rest-test.false

@@ -1,0 +1,33 @@
+-- `expected::wires::on_wires` meets its contract. Assumes nothing.
+use Prim.Native.Nat.{◌^◌, ◌≤◌}
+use native.Mathlib.Nat.{zero-mul}
+use native.Mathlib.Omega.{arith}
+use lib.Pow.{pow_pos, pow_mono}
+use Rattle.bus.specs.Range.{width}
+use Rattle.bus.proofs.Ranges.{right-low, width-le}
+use Rattle.expected.proofs.Placed.{placed}
+use Rattle.expected.proofs.wires.on_wires.Goals as goal
+
+pub low_ones-requires : goal.low_ones-requires
+low_ones-requires c = let s = c.before in omega (arith, c.width.ensures, width-le s.args.port s.requires.o)
+
+pub overflow_cast-result : goal.overflow_cast-result
+overflow_cast-result c =
+    let s = c.before in
+    let narrow : c.width.result ≤ 32 = omega (arith, c.width.ensures, width-le s.args.port s.requires.o) in
+    omega (arith, c.low_ones.ensures, pow_mono narrow)
+
+pub overflow_shl-result : goal.overflow_shl-result
+overflow_shl-result c = let s = c.before in omega (arith, right-low s.args.port s.requires.o)
+
+pub overflow_shl-result-2 : goal.overflow_shl-result-2
+overflow_shl-result-2 c = let s = c.before in omega (arith, right-low s.args.port s.requires.o)
+
+pub returns : goal.returns
+returns c =
+    let s = c.before in
+    let p = s.args.port in
+    let ones = rw c.width.ensures at c.low_ones.ensures in (
+      placed p s.requires.o s.requires.v c.low_ones.result s.args.value ones s.requires.e,
+      λ wires. rw (zero-mul (2 ^ p.right)) at (placed p s.requires.o s.requires.v c.low_ones.result 0 ones (pow_pos (width p)) wires),
+    )

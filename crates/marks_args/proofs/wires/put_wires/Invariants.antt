@@ -1,0 +1,13 @@
+-- `marks_args::wires::put_wires` meets its contract: what is left to put, put into the table as it is, gives the table that is due. The measure is how many are left.
+-- Assumes nothing.
+use Prim.Native.Nat.{◌≤◌, ◌-◌, ◌+◌}
+use mathlib.Core.Path.{◌≡◌}
+use Rattle.marks_args.specs.Wires.{with_wires}
+use Rattle.marks_args.proofs.Laws as laws
+use Rattle.marks_args.proofs.wires.put_wires.Given as goal
+
+abbrev pub invariant-loop-k : goal.invariant-loop-k
+invariant-loop-k l = (l.k ≤ l.initial.wires) × (with_wires l.first l.code l.low l.count l.initial.wires ≡ with_wires l.wires (l.code + l.k) l.low (l.count + l.k) (l.initial.wires - l.k))
+
+abbrev pub decreases-loop-k : goal.decreases-loop-k
+decreases-loop-k l = l.initial.wires - l.k

@@ -1,0 +1,13 @@
+-- `marks_dump::taken::take_as_one` meets its contract: the frames that are left, with their bits set in the frames as they are, give what is due. Assumes nothing.
+use Prim.Native.Nat.{◌≤◌, ◌-◌}
+use lib.ListN.{length}
+use mathlib.Core.Path.{◌≡◌}
+use Rattle.marks_dump.specs.Taken.{with_bits}
+use Rattle.marks_dump.proofs.Laws as laws
+use Rattle.marks_dump.proofs.taken.take_as_one.Given as goal
+
+abbrev pub invariant-loop-t : goal.invariant-loop-t
+invariant-loop-t l = (l.t ≤ l.initial.frames) × (length l.frames ≡ length l.bits) × (with_bits l.bits 0 l.n l.initial.frames ≡ with_bits l.frames l.t l.n (l.initial.frames - l.t))
+
+abbrev pub decreases-loop-t : goal.decreases-loop-t
+decreases-loop-t l = l.initial.frames - l.t

@@ -1,0 +1,62 @@
+-- `passes::count::count_all` meets its contract. The loop's invariant: the word is the one before cycle t, and the entries of the cycles before t are counted.
+-- Each turn adds those of a block. The measure is what is left of the trace. Assumes nothing.
+use Prim.Native.Nat.{◌-◌, zero-le}
+use mathlib.Core.Path.{◌≡◌, refl}
+use Rattle.trace.specs.Traces.{frames, frame_at}
+use Rattle.blocks.proofs.Stretches.{counted_none, counted-more}
+use Rattle.passes.proofs.Whole.{place-fits, count_fits, left-falls, all-passed, passing-none, counted-all}
+use Rattle.passes.proofs.count.count_all.Goals as goal
+
+pub frames_in-cycles-requires : goal.frames_in-cycles-requires
+frames_in-cycles-requires c = tt
+
+pub loop-t-init : goal.loop-t-init
+loop-t-init c =
+    let s = c.before.before in
+    let a = s.args in
+    (zero-le, passing-none a.c a.trace.now s.requires.o s.requires.v, counted_none a.c (frame_at a.trace.now), refl)
+
+pub run_block-block-requires : goal.run_block-block-requires
+unfolding frames
+run_block-block-requires c =
+    let l = c.before.before in
+    (l.loop-t.invariant.1, rw l.frames_in-cycles.ensures at l.loop-t-test.true, l.loop-t.invariant.3)
+
+pub count_block-count-requires : goal.count_block-count-requires
+count_block-count-requires c = (c.loop-t.invariant.1, c.run_block-block.ensures.0)
+
+pub overflow_add-count : goal.overflow_add-count
+overflow_add-count c =
+    let at = c.loop-t in
+    let run = c.run_block-block in
+    count_fits at.t run.result.cycles at.count c.count_block-count.result at.invariant.2.few c.count_block-count.ensures.few run.ensures.0.in-trace
+    at.invariant.1.short
+
+pub overflow_add-t : goal.overflow_add-t
+overflow_add-t c =
+    let block = c.before.before in place-fits block.run_block-block.ensures.0.in-trace block.loop-t.invariant.1.short
+
+pub loop-t-smaller : goal.loop-t-smaller
+loop-t-smaller c =
+    let l = c.before.before in
+    let run = c.run_block-block in
+    left-falls l.frames_in-cycles.result l.loop-t.t run.result.cycles l.loop-t-test.true run.ensures.2
+
+pub loop-t-preserved : goal.loop-t-preserved
+loop-t-preserved c =
+    let at = c.before.before in
+    let a = at.args in
+    let run = c.run_block-block in (
+      run.ensures.0.in-trace,
+      run.ensures.1,
+      counted-more a.c (frame_at a.trace.now) at.loop-t.t run.result.cycles at.loop-t.invariant.2 c.count_block-count.ensures,
+      run.ensures.0.picks.long,
+    )
+
+pub returns : goal.returns
+unfolding frames
+returns c =
+    let at = c.loop-t in
+    let s = c.before.before in
+    let all : at.t ≡ frames s.args.trace.now = all-passed (rw c.frames_in-cycles.ensures at c.loop-t-test.false) at.invariant.0 in
+    counted-all s.args.c s.args.trace.now at.t all s.requires.v at.invariant.2

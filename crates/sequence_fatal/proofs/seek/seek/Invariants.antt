@@ -1,0 +1,17 @@
+-- `sequence_fatal::seek::seek` meets its contract. The loop's invariant is `Running`, of the checker made fatal, with a word that is not 2^63. The measure is what is
+-- left of the stretch. Assumes nothing.
+use Prim.Native.Nat.{◌-◌}
+use mathlib.Core.Path.{◌≡◌}
+use mathlib.Core.Bool.{true}
+use Rattle.rules.specs.Config.{fatally}
+use Rattle.rules.specs.Rules.{stopped_word}
+use Rattle.trace.specs.Stretches.{Running}
+use Rattle.trace.proofs.Running.{reached}
+use Rattle.sequence_fatal.proofs.seek.seek.Given as goal
+
+abbrev pub invariant-loop-at : goal.invariant-loop-at
+invariant-loop-at l = Running (fatally l.c) l.trace l.from l.to (record { from = from; at = at₀; to = to; stops = true; word = word₀; kept = l.initial.kept }) l.rows l.words (reached l.at l.word l.kept)
+    × (l.word ≡ stopped_word → ⊥)
+
+abbrev pub decreases-loop-at : goal.decreases-loop-at
+decreases-loop-at l = l.initial.words - l.at

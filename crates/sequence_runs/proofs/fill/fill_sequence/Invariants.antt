@@ -1,0 +1,14 @@
+-- `sequence_runs::fill::fill_sequence` meets its contract. The loop's invariant is `Filling`: the run has come to an entry and has stored those before it. The measure is
+-- what is left of the stretch. Assumes nothing.
+use Prim.Native.Nat.{◌-◌}
+use mathlib.Core.Bool.{false}
+use Rattle.trace.specs.Stretches.{Running, kept_from}
+use Rattle.trace.proofs.Running.{reached}
+use Rattle.sequence_runs.proofs.fill.fill_sequence.Given as goal
+
+abbrev pub invariant-loop-at : goal.invariant-loop-at
+invariant-loop-at l = Running l.c l.trace l.from l.to (record { from = from; at = at₀; to = to; stops = false; word = word₀; kept = l.initial.at }) l.rows l.words
+    (reached l.at l.word (kept_from l.to l.initial.rows l.initial.at l.at))
+
+abbrev pub decreases-loop-at : goal.decreases-loop-at
+decreases-loop-at l = l.last - l.at

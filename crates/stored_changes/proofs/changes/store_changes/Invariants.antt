@@ -1,0 +1,14 @@
+-- `stored_changes::changes::store_changes` meets its contract. The loop's invariant: behind the first number the first i are the changes, and those behind
+-- them are as they were. The measure is what is left of the marks. Assumes nothing.
+use Prim.Native.Nat.{◌-◌, ◌≤◌}
+use mathlib.Core.Path.{◌≡◌}
+use lib.ListN.{length}
+use lib.Seq.{paste}
+use Rattle.rules.specs.Rules.{marks}
+use Rattle.stored_changes.proofs.changes.store_changes.Given as goal
+
+abbrev pub invariant-loop-i : goal.invariant-loop-i
+invariant-loop-i l = (l.answer ≡ paste l.end 1 l.initial.answer l.i) × (l.i ≤ marks) × (length l.answer ≡ length l.end)
+
+abbrev pub decreases-loop-i : goal.decreases-loop-i
+decreases-loop-i l = marks - l.i

@@ -1,0 +1,13 @@
+-- `value_runs::seek::seek_value` meets its contract. The loop's invariant is `Running`: the run has come to an entry with no earlier one where it had to stop. The
+-- measure is what is left of the stretch. Assumes nothing.
+use Prim.Native.Nat.{◌-◌}
+use mathlib.Core.Bool.{true}
+use Rattle.trace.specs.Stretches.{Running}
+use Rattle.trace.proofs.Running.{reached}
+use Rattle.value_runs.proofs.seek.seek_value.Given as goal
+
+abbrev pub invariant-loop-at : goal.invariant-loop-at
+invariant-loop-at l = Running l.c l.trace l.e l.from (record { from = from; at = at₀; to = to; stops = true; word = word₀; kept = l.initial.kept }) l.rows l.words (reached l.at l.word l.kept)
+
+abbrev pub decreases-loop-at : goal.decreases-loop-at
+decreases-loop-at l = l.initial.words - l.at
