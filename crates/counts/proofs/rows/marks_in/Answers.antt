@@ -31,20 +31,17 @@ half_of-half-requires c = tt
 pub with_halves-tally-requires : goal.with_halves-tally-requires
 with_halves-tally-requires c =
     let at = c.loop-at in
-    let args = c.args in (
-      (omega arith, omega arith),
-      λ i h. omega (arith, at.invariant.2.are i h, marks-le args.rows.now i args.from at.at),
-    )
+    let args = c.args in record { half_bound = (omega arith, omega arith); by_index = λ i h. omega (arith, at.invariant.2.are i h, marks-le args.rows.now i args.from at.at) }
 
 pub loop-at-smaller : goal.loop-at-smaller
-loop-at-smaller c = let some : 1 ≤ c.half_of_lem.result = c.half_of_lem.ensures.2 (omega arith) in omega arith
+loop-at-smaller c = let some : 1 ≤ c.half_of-half.result = c.half_of-half.ensures.2 (omega arith) in omega arith
 
 pub loop-at-preserved : goal.loop-at-preserved
 loop-at-preserved c =
     let at = c.loop-at in
     let args = c.args in
     let rows = args.rows.now in
-    let next = at.at + c.half_of_lem.result + c.half_of_lem.result in (
+    let next = at.at + c.half_of-half.result + c.half_of-half.result in (
       omega arith,
       omega arith,
       record {

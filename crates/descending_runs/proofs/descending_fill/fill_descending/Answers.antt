@@ -63,7 +63,7 @@ loop-at-preserved c =
     let next = c.values_cycle-next in
     rw (add-one at.at)
     (filling-more s.args.c s.args.trace.now s.args.rows.now s.args.words.now (settled s.args.s false) (ready s) refl at.rows at.words
-    at.at at.word at.invariant l.loop-at-test.true next.result.row next.result.word (next.ensures _ c.descending_at.ensures c.known_at_lem.ensures))
+    at.at at.word at.invariant l.loop-at-test.true next.result.row next.result.word (next.ensures _ c.descending_at.ensures c.known_at.ensures))
 
 pub shape_of-rows : goal.shape_of-rows
 shape_of-rows c = c.loop-at.invariant.rows_are.same_length

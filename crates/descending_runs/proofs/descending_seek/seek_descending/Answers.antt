@@ -89,7 +89,7 @@ loop-at-preserved c =
     rw (add-one at.at)
     (running_more s.args.c s.args.trace.now s.args.rows.now s.args.words.now (settled s.args.s true) (ready s) at.rows at.words at.at
     at.word at.auto at.invariant l.loop-at-test.true (λ _. l.if-word-kept.false) next.result.row next.result.word
-    (next.ensures _ c.descending_at.ensures c.known_at_lem.ensures))
+    (next.ensures _ c.descending_at.ensures c.known_at.ensures))
 
 pub shape_of-rows : goal.shape_of-rows
 shape_of-rows c = c.loop-at.invariant.rows_are.same_length

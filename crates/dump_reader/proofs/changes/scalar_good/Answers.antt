@@ -29,4 +29,4 @@ returns-then-store-i-eq2 c = (λ h. absurd (false≢true h), λ h. refl)
 
 pub returns : goal.returns
 unfolding tail_code
-returns c = (λ h. runs.scalar_made _ _ _ _ _ _ c.value_of_lem.ensures c.if-v-ge3.false c.if-t-lt2.false c.if-t-gt9.false c.if-t-ne1.false c.find-i.ensures c.if-i-n.false c.if-store-i-ne1.false c.if-store-i-eq2.false c.change_bits.ensures, λ h. absurd (true≢false h))
+returns c = (λ h. runs.scalar_made _ _ _ _ _ _ c.value_of-v.ensures c.if-v-ge3.false c.if-t-lt2.false c.if-t-gt9.false c.if-t-ne1.false c.find-i.ensures c.if-i-n.false c.if-store-i-ne1.false c.if-store-i-eq2.false c.change_bits.ensures, λ h. absurd (true≢false h))

@@ -29,7 +29,7 @@ returns-then-count-ge4096 c = (c.loop-i.invariant.0, c.loop-i.invariant.1, c.loo
 
 -- src/run.rt:75:5
 pub loop-i-preserved : goal.loop-i-preserved
-loop-i-preserved c = (omega arith, omega arith, omega arith, simp length-set c.loop-i.invariant.3, λ a g. c.loop-i.invariant.4 a g ∙ runs.vector-more _ _ c.loop-i-test.true (runs.digit-full _ (λ x. c.if-v-eq3.false (c.value_of_lem.ensures ∙ x))) _ _ _ c.if-count-ge4096.false c.value_of_lem.ensures c.if-v-eq3.false a g)
+loop-i-preserved c = (omega arith, omega arith, omega arith, simp length-set c.loop-i.invariant.3, λ a g. c.loop-i.invariant.4 a g ∙ runs.vector-more _ _ c.loop-i-test.true (runs.digit-full _ (λ x. c.if-v-eq3.false (c.value_of-v.ensures ∙ x))) _ _ _ c.if-count-ge4096.false c.value_of-v.ensures c.if-v-eq3.false a g)
 
 -- src/run.rt:69:1
 pub shape_of-digits : goal.shape_of-digits

@@ -27,7 +27,4 @@ pub returns : goal.returns
 returns c =
     let s = c.before in
     let p = s.args.port in
-    let ones = rw c.width.ensures at c.low_ones.ensures in (
-      placed p s.requires.o s.requires.v c.low_ones.result s.args.value ones s.requires.e,
-      λ wires. rw (zero-mul (2 ^ p.right)) at (placed p s.requires.o s.requires.v c.low_ones.result 0 ones (pow_pos (width p)) wires),
-    )
+    let ones = rw c.width.ensures at c.low_ones.ensures in record { by_index = placed p s.requires.o s.requires.v c.low_ones.result s.args.value ones s.requires.e; by_index_2 = λ wires. rw (zero-mul (2 ^ p.right)) at (placed p s.requires.o s.requires.v c.low_ones.result 0 ones (pow_pos (width p)) wires) }

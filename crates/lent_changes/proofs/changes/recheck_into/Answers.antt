@@ -37,4 +37,4 @@ returns c =
     let d = c.before.before in
     let called = d.before in
     stored called.recheck-result.ensures called.if-answer.false d.if-result-ne0.false
-    (c.store_changes.ensures ∙ ap (λ (z : ℤ). z ∷ called.recheck-result.result.changes) (to_z_pos w32 (cast-store-changes c.before.before).sfits))
+    (c.store_changes.ensures ∙ ap (λ (z : ℤ). z ∷ called.recheck-result.result.changes) (to_z_pos w32 (overflow_cast-result c.before.before).sfits))

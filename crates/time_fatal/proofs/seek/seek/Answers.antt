@@ -97,10 +97,10 @@ returns-then-fails c =
     settled-watched s.pre.3 (record { come = rw (add-one at.at) come; ended = λ other _. absurd (other refl) })
 
 pub shape_of-rows-then-fails : goal.shape_of-rows-then-fails
-shape_of-rows-then-fails c = (returns-2 c).come.rows_are.same_length
+shape_of-rows-then-fails c = (returns-then-fails c).come.rows_are.same_length
 
 pub shape_of-words-then-fails : goal.shape_of-words-then-fails
-shape_of-words-then-fails c = (returns-2 c).come.words_are.same_length
+shape_of-words-then-fails c = (returns-then-fails c).come.words_are.same_length
 
 pub offset_bounds-words-at-in-loop-at : goal.offset_bounds-words-at-in-loop-at
 offset_bounds-words-at-in-loop-at c = let l = c.before.before in omega (arith, low l, (start l).requires.o.short)

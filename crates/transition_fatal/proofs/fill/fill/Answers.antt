@@ -99,14 +99,14 @@ returns-then-fails c =
     let come =
     fill_fails s.args.c s.pre.1.1 s.args.trace.now s.args.rows.now s.args.words.now (settled s.args.s false) (ready s) refl at.rows at.words
     at.at at.word at.invariant.0 at.invariant.1 l.loop-at-test.true next.result.row next.result.word
-    (next.ensures _ c.values_at.ensures c.known_at_lem.ensures) (sym c.fails.ensures ∙ c.if-fails.true) in
+    (next.ensures _ c.values_at.ensures c.known_at.ensures) (sym c.fails.ensures ∙ c.if-fails.true) in
     settled-watched s.pre.3 (record { come = rw (add-one at.at) come; ended = λ other _. absurd (other refl) })
 
 pub shape_of-rows-then-fails : goal.shape_of-rows-then-fails
-shape_of-rows-then-fails c = (returns c).come.rows_are.same_length
+shape_of-rows-then-fails c = (returns-then-fails c).come.rows_are.same_length
 
 pub shape_of-words-then-fails : goal.shape_of-words-then-fails
-shape_of-words-then-fails c = (returns c).come.words_are.same_length
+shape_of-words-then-fails c = (returns-then-fails c).come.words_are.same_length
 
 pub offset_bounds-words-at-in-loop-at : goal.offset_bounds-words-at-in-loop-at
 offset_bounds-words-at-in-loop-at c = let l = c.before.before in omega (arith, low l, (start l).requires.o.short)
@@ -131,7 +131,7 @@ loop-at-preserved c =
     rw (add-one at.at)
     (fill-goes-on s.args.c s.pre.1.1 s.args.trace.now s.args.rows.now s.args.words.now (settled s.args.s false) (ready s) refl at.rows at.words
     at.at at.word at.invariant.0 at.invariant.1 l.loop-at-test.true next.result.row next.result.word
-    (next.ensures _ c.values_at.ensures c.known_at_lem.ensures) (sym c.fails.ensures ∙ c.if-fails.false))
+    (next.ensures _ c.values_at.ensures c.known_at.ensures) (sym c.fails.ensures ∙ c.if-fails.false))
 
 pub shape_of-rows : goal.shape_of-rows
 shape_of-rows c = c.loop-at.invariant.0.rows_are.same_length

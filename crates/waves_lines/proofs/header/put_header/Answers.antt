@@ -3,7 +3,7 @@ use Rattle.waves_put.proofs.put_text.Reads as put-text-reads
 use Rattle.waves_lines.proofs.header.put_header.Goals as goal
 
 -- UNKNOWN slice-aggregate-put-text
-slice-aggregate-put-text : tie.Need-slice-aggregate-put-text invariant-loop decreases-loop
+slice-aggregate-put-text : tie.Need-slice-aggregate-put-text invariant-loop-j decreases-loop-j
 slice-aggregate-put-text c = ?
 
 -- src/header.rt:29:9
@@ -39,7 +39,7 @@ pub loop-j-preserved : goal.loop-j-preserved
 loop-j-preserved c = ?
 
 -- UNKNOWN slice-aggregate-put-text-2
-slice-aggregate-put-text-2 : tie.Need-slice-aggregate-put-text-2 invariant-loop decreases-loop
+slice-aggregate-put-text-2 : tie.Need-slice-aggregate-put-text-2 invariant-loop-j decreases-loop-j
 slice-aggregate-put-text-2 c = ?
 
 -- src/header.rt:36:5

@@ -38,7 +38,7 @@ bounds-counts-i-in-loop-i c = c.loop-i-test.true
 pub loop-i-preserved : goal.loop-i-preserved
 loop-i-preserved c =
     let at = c.loop-i in
-    walked_more at.invariant c.loop-i-test.true (omega (arith, sub-counts c, at.invariant.rest at.i (le_refl at.i)))
+    walked_more at.invariant c.loop-i-test.true (omega (arith, overflow_sub-counts c, at.invariant.rest at.i (le_refl at.i)))
 
 pub returns : goal.returns
 returns c i h = c.loop-i.invariant.done i (omega arith)
