@@ -18,7 +18,7 @@ loop-i-init c =
 
 pub picked_cycle-cycle-requires : goal.picked_cycle-cycle-requires
 picked_cycle-cycle-requires c =
-    let s = c.before.before in picked-in s.requires.o s.requires.v c.loop-i.i c.loop-i-test.true
+    let s = c.before.before in picked-in s.requires.0 s.requires.1 c.loop-i.i c.loop-i-test.true
 
 pub write_entries-next-requires : goal.write_entries-next-requires
 write_entries-next-requires c =
@@ -26,11 +26,11 @@ write_entries-next-requires c =
     let at = l.loop-i in
     let s = l.before in
     let cycle = c.picked_cycle-cycle in
-    let h = picked-here s.requires.o s.requires.v at.i l.loop-i-test.true cycle.result cycle.ensures in
-    (h.0.ready, h.1, row_fits s.requires.o s.requires.v at.i l.loop-i-test.true h.0 at.invariant.1 s.requires.e)
+    let h = picked-here s.requires.0 s.requires.1 at.i l.loop-i-test.true cycle.result cycle.ensures in
+    (h.0.ready, h.1, row_fits s.requires.0 s.requires.1 at.i l.loop-i-test.true h.0 at.invariant.1 s.requires.2)
 
 pub overflow_step-i : goal.overflow_step-i
-overflow_step-i c = let s = c.before.before in omega (arith, s.requires.v.picks.few, s.requires.v.short)
+overflow_step-i c = let s = c.before.before in omega (arith, s.requires.1.picks.few, s.requires.1.short)
 
 pub loop-i-smaller : goal.loop-i-smaller
 loop-i-smaller c = omega (arith, c.loop-i-test.true)
@@ -41,9 +41,9 @@ loop-i-preserved c =
     let at = l.loop-i in
     let s = l.before in
     let cycle = c.picked_cycle-cycle in
-    let h = picked-here s.requires.o s.requires.v at.i l.loop-i-test.true cycle.result cycle.ensures in (
+    let h = picked-here s.requires.0 s.requires.1 at.i l.loop-i-test.true cycle.result cycle.ensures in (
       omega (arith, l.loop-i-test.true),
-      stored_next s.requires.o s.requires.v at.i l.loop-i-test.true h.0 at.invariant.1 c.write_entries-next.ensures,
+      stored_next s.requires.0 s.requires.1 at.i l.loop-i-test.true h.0 at.invariant.1 c.write_entries-next.ensures,
     )
 
 pub shape_of-list : goal.shape_of-list
@@ -54,4 +54,4 @@ returns c =
     let at = c.loop-i in
     let s = c.before.before in
     let all : at.i ≡ s.args.block.marked = omega (arith, c.loop-i-test.false, at.invariant.0) in
-    subst (λ (es : List Entry). Stored es s.args.list.now s.args.at at.list at.next) (block-entries s.requires.o s.requires.v) (rw all at at.invariant.1)
+    subst (λ (es : List Entry). Stored es s.args.list.now s.args.at at.list at.next) (block-entries s.requires.0 s.requires.1) (rw all at at.invariant.1)

@@ -13,58 +13,58 @@ pub overflow_sub-t : goal.overflow_sub-t
 overflow_sub-t c =
     let s = c.before.before in
     let a = s.args in
-    stored-before a.c a.word a.frame a.row a.t s.requires.o (family-transition a.c.kind c.in-6.keys1)
-    s.requires.v
+    stored-before a.c a.word a.frame a.row a.t s.requires.0 (family-transition a.c.kind c.in-6.keys1)
+    s.requires.1
 
 pub write_entry-requires : goal.write_entry-requires
 write_entry-requires c =
     let s = c.before in
     let a = s.args in
     let fam = family-transition a.c.kind c.in-6.keys1 in
-    let h = stored-before a.c a.word a.frame a.row a.t s.requires.o fam s.requires.v in
-    let e = transition-is a.c a.word a.frame a.row a.t s.requires.o fam s.requires.v in
-    (s.requires.o.low, omega (arith, h), omega (arith, s.requires.e, ap length e))
+    let h = stored-before a.c a.word a.frame a.row a.t s.requires.0 fam s.requires.1 in
+    let e = transition-is a.c a.word a.frame a.row a.t s.requires.0 fam s.requires.1 in
+    (s.requires.0.low, omega (arith, h), omega (arith, s.requires.2, ap length e))
 
 pub trigger_cycle-requires : goal.trigger_cycle-requires
 trigger_cycle-requires c =
     let s = c.before.before in
     let a = s.args in
     let fam = family-value a.c.kind c.in-7.keys2 in
-    let h = value_low a.c a.word a.frame a.row a.t s.requires.o fam in
-    (s.requires.o.low, h.0, omega (arith, h), h.2)
+    let h = value_low a.c a.word a.frame a.row a.t s.requires.0 fam in
+    (s.requires.0.low, h.0, omega (arith, h), h.2)
 
 pub write_entry-requires-in-7 : goal.write_entry-requires-in-7
 write_entry-requires-in-7 c =
     let s = c.before in
     let a = s.args in
     let fam = family-value a.c.kind c.in-7.keys2 in
-    let h = value_low a.c a.word a.frame a.row a.t s.requires.o fam in
-    let e = value-is a.c a.word a.frame a.row a.t s.requires.o fam s.requires.v in
+    let h = value_low a.c a.word a.frame a.row a.t s.requires.0 fam in
+    let e = value-is a.c a.word a.frame a.row a.t s.requires.0 fam s.requires.1 in
     let start = c.trigger_cycle.ensures in
-    (s.requires.o.low, rw start (trigger-low a.c a.word a.frame a.row a.t s.requires.o a.word h.0 h.2), omega (arith, s.requires.e, ap length e))
+    (s.requires.0.low, rw start (trigger-low a.c a.word a.frame a.row a.t s.requires.0 a.word h.0 h.2), omega (arith, s.requires.2, ap length e))
 
 pub trigger_cycle-requires-in-8 : goal.trigger_cycle-requires-in-8
 trigger_cycle-requires-in-8 c =
     let s = c.before.before in
     let a = s.args in
     let fam = family-stability a.c.kind c.in-8.keys3 in
-    let h = stability-low a.c a.word a.frame a.row a.t s.requires.o fam in
-    (s.requires.o.low, h.0, omega (arith, h), h.2)
+    let h = stability-low a.c a.word a.frame a.row a.t s.requires.0 fam in
+    (s.requires.0.low, h.0, omega (arith, h), h.2)
 
 pub write_entry-requires-in-8 : goal.write_entry-requires-in-8
 write_entry-requires-in-8 c =
     let s = c.before in
     let a = s.args in
     let fam = family-stability a.c.kind c.in-8.keys3 in
-    let h = stability-low a.c a.word a.frame a.row a.t s.requires.o fam in
-    let e = stability-is a.c a.word a.frame a.row a.t s.requires.o fam s.requires.v in
+    let h = stability-low a.c a.word a.frame a.row a.t s.requires.0 fam in
+    let e = stability-is a.c a.word a.frame a.row a.t s.requires.0 fam s.requires.1 in
     let start = c.trigger_cycle-in-8.ensures in
-    (s.requires.o.low, rw start (trigger-low a.c a.word a.frame a.row a.t s.requires.o (left_in a.word) h.0 h.2), omega (arith, s.requires.e, ap length e))
+    (s.requires.0.low, rw start (trigger-low a.c a.word a.frame a.row a.t s.requires.0 (left_in a.word) h.0 h.2), omega (arith, s.requires.2, ap length e))
 
 -- ---- kinds 0 to 2
 pub lost_attempts-requires : goal.lost_attempts-requires
 lost_attempts-requires c =
-    let s = c.before.before in (s.requires.o.good, family-sequence s.args.c.kind c.if-kind-lt3.true, s.requires.o.possible-word)
+    let s = c.before.before in (s.requires.0.good, family-sequence s.args.c.kind c.if-kind-lt3.true, s.requires.0.possible-word)
 
 pub write_attempts-requires : goal.write_attempts-requires
 write_attempts-requires c =
@@ -73,11 +73,11 @@ write_attempts-requires c =
     let fam = family-sequence a.c.kind c.if-kind-lt3.true in
     let lost = c.lost_attempts in
     let e =
-    attempts-are a.c a.word a.frame a.row a.t s.requires.o fam lost.result lost.ensures
-    s.requires.v in (
-      s.requires.o.low,
-      lost-young a.c a.word a.frame a.row a.t s.requires.o fam lost.result lost.ensures,
-      omega (arith, s.requires.e, ap length e),
+    attempts-are a.c a.word a.frame a.row a.t s.requires.0 fam lost.result lost.ensures
+    s.requires.1 in (
+      s.requires.0.low,
+      lost-young a.c a.word a.frame a.row a.t s.requires.0 fam lost.result lost.ensures,
+      omega (arith, s.requires.2, ap length e),
     )
 
 -- ---- kinds 3 to 5
@@ -86,30 +86,30 @@ overflow_add-t c =
     let s = c.before.before in
     let a = s.args in
     let fam = family-time a.c.kind c.if-kind-lt3.false c.if-kind-lt6.true in
-    omega (arith, s.requires.o.low, window-start a.c a.word a.frame a.row a.t s.requires.o fam s.requires.v)
+    omega (arith, s.requires.0.low, window-start a.c a.word a.frame a.row a.t s.requires.0 fam s.requires.1)
 
 pub overflow_sub-t-in-3-to-5 : goal.overflow_sub-t-in-3-to-5
 overflow_sub-t-in-3-to-5 c =
     let s = c.before.before in
     let a = s.args in
     let fam = family-time a.c.kind c.if-kind-lt3.false c.if-kind-lt6.true in
-    omega (arith, window-start a.c a.word a.frame a.row a.t s.requires.o fam s.requires.v)
+    omega (arith, window-start a.c a.word a.frame a.row a.t s.requires.0 fam s.requires.1)
 
 pub overflow_sub-t-in-3-to-5-2 : goal.overflow_sub-t-in-3-to-5-2
 overflow_sub-t-in-3-to-5-2 c =
     let s = c.before.before in
     let a = s.args in
     let fam = family-time a.c.kind c.if-kind-lt3.false c.if-kind-lt6.true in
-    omega (arith, window-start a.c a.word a.frame a.row a.t s.requires.o fam s.requires.v)
+    omega (arith, window-start a.c a.word a.frame a.row a.t s.requires.0 fam s.requires.1)
 
 pub write_window-requires : goal.write_window-requires
 write_window-requires c =
     let s = c.before in
     let a = s.args in
     let fam = family-time a.c.kind c.if-kind-lt3.false c.if-kind-lt6.true in
-    let h = window-start a.c a.word a.frame a.row a.t s.requires.o fam s.requires.v in
-    let e = window-is a.c a.word a.frame a.row a.t s.requires.o fam s.requires.v in
-    (s.requires.v, omega arith, s.requires.o.low, omega (arith, h), omega (arith, s.requires.e, ap length e))
+    let h = window-start a.c a.word a.frame a.row a.t s.requires.0 fam s.requires.1 in
+    let e = window-is a.c a.word a.frame a.row a.t s.requires.0 fam s.requires.1 in
+    (s.requires.1, omega arith, s.requires.0.low, omega (arith, h), omega (arith, s.requires.2, ap length e))
 
 -- ---- what is written
 pub shape_of-list-in-6 : goal.shape_of-list-in-6
@@ -120,7 +120,7 @@ returns-in-6 c =
     let s = c.before.before in
     let a = s.args in
     let fam = family-transition a.c.kind c.in-6.keys1 in
-    rw (transition-is a.c a.word a.frame a.row a.t s.requires.o fam s.requires.v)
+    rw (transition-is a.c a.word a.frame a.row a.t s.requires.0 fam s.requires.1)
     c.write_entry.ensures
 
 pub shape_of-list-in-7 : goal.shape_of-list-in-7
@@ -131,7 +131,7 @@ returns-in-7 c =
     let s = c.before.before in
     let a = s.args in
     let fam = family-value a.c.kind c.in-7.keys2 in
-    rw (value-is a.c a.word a.frame a.row a.t s.requires.o fam s.requires.v, ← c.trigger_cycle.ensures) c.write_entry-in-7.ensures
+    rw (value-is a.c a.word a.frame a.row a.t s.requires.0 fam s.requires.1, ← c.trigger_cycle.ensures) c.write_entry-in-7.ensures
 
 pub shape_of-list-in-8 : goal.shape_of-list-in-8
 shape_of-list-in-8 c = stored-length c.write_entry-in-8.ensures
@@ -141,7 +141,7 @@ returns-in-8 c =
     let s = c.before.before in
     let a = s.args in
     let fam = family-stability a.c.kind c.in-8.keys3 in
-    rw (stability-is a.c a.word a.frame a.row a.t s.requires.o fam s.requires.v, ← c.trigger_cycle-in-8.ensures) c.write_entry-in-8.ensures
+    rw (stability-is a.c a.word a.frame a.row a.t s.requires.0 fam s.requires.1, ← c.trigger_cycle-in-8.ensures) c.write_entry-in-8.ensures
 
 pub shape_of-list-in-0-to-2 : goal.shape_of-list-in-0-to-2
 shape_of-list-in-0-to-2 c = stored-length c.write_attempts.ensures
@@ -153,8 +153,8 @@ returns-in-0-to-2 c =
     let fam = family-sequence a.c.kind c.if-kind-lt3.true in
     let lost = c.lost_attempts in
     rw
-    (attempts-are a.c a.word a.frame a.row a.t s.requires.o fam lost.result lost.ensures
-    s.requires.v)
+    (attempts-are a.c a.word a.frame a.row a.t s.requires.0 fam lost.result lost.ensures
+    s.requires.1)
     c.write_attempts.ensures
 
 pub shape_of-list-in-3-to-5 : goal.shape_of-list-in-3-to-5
@@ -166,11 +166,11 @@ returns-in-3-to-5 c =
     let a = s.args in
     let fam = family-time a.c.kind c.if-kind-lt3.false c.if-kind-lt6.true in
     rw
-    (window-is a.c a.word a.frame a.row a.t s.requires.o fam s.requires.v)
+    (window-is a.c a.word a.frame a.row a.t s.requires.0 fam s.requires.1)
     c.write_window.ensures
 
 -- no kind is left
 pub returns-in-9-to-255 : goal.returns-in-9-to-255
 returns-in-9-to-255 c =
     let s = c.before.before in
-    absurd (omega (arith, kind-low s.args.c s.requires.o.good))
+    absurd (omega (arith, kind-low s.args.c s.requires.0.good))

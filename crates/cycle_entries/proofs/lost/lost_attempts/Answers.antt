@@ -9,7 +9,7 @@ use Rattle.cycle_entries.proofs.LostWord.{lost-all, lost-oldest}
 use Rattle.cycle_entries.proofs.lost.lost_attempts.Goals as goal
 
 pub missed_in_order-requires : goal.missed_in_order-requires
-missed_in_order-requires c = (c.requires.o, c.requires.v)
+missed_in_order-requires c = (c.requires.0, c.requires.1)
 
 pub overflow_sub-result : goal.overflow_sub-result
 overflow_sub-result c = let s = c.before in (fits s.args.c s.args.word s.requires).0

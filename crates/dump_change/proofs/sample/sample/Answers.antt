@@ -11,7 +11,7 @@ loop-j-init c = (refl, refl)
 
 -- src/sample.rt:16:9
 pub bounds-frames-k : goal.bounds-frames-k
-bounds-frames-k c = omega (arith, c.loop-j.invariant.0, c.requires.v, c.loop-j-test.true)
+bounds-frames-k c = omega (arith, c.loop-j.invariant.0, c.requires.1, c.loop-j-test.true)
 
 -- src/sample.rt:15:5
 pub loop-j-preserved : goal.loop-j-preserved

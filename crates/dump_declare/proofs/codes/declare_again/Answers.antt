@@ -13,10 +13,10 @@ unfolding declare_again
 returns-then-h-eq0 c = simp (eq-eqb _ _ c.if-h-eq0.true, eq-eqb _ _ c.if-store-i-ne0.false)
 
 pub bounds-store-i-3 : goal.bounds-store-i-3
-bounds-store-i-3 c = simp length-set (omega (arith, c.requires.o, c.requires.v))
+bounds-store-i-3 c = simp length-set (omega (arith, c.requires.0, c.requires.1))
 
 pub bounds-store-i-4 : goal.bounds-store-i-4
-bounds-store-i-4 c = simp length-set (omega (arith, c.requires.o, c.requires.v))
+bounds-store-i-4 c = simp length-set (omega (arith, c.requires.0, c.requires.1))
 
 pub returns : goal.returns
 unfolding declare_again

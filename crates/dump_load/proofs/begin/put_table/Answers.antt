@@ -7,7 +7,7 @@ use Rattle.dump_load.proofs.begin.put_table.Goals as goal
 
 -- src/begin.rt:38:5
 pub loop-k-init : goal.loop-k-init
-loop-k-init c = (c.requires.o, refl)
+loop-k-init c = (c.requires.0, refl)
 
 -- src/begin.rt:39:9
 pub bounds-store-k : goal.bounds-store-k
@@ -19,7 +19,7 @@ loop-k-preserved c = (simp length-set c.loop-k.invariant.0, c.loop-k.invariant.1
 
 -- src/begin.rt:33:1
 pub shape_of-store : goal.shape_of-store
-shape_of-store c = c.loop-k.invariant.0 ∙ sym c.requires.o
+shape_of-store c = c.loop-k.invariant.0 ∙ sym c.requires.0
 
 -- src/begin.rt:33:1
 pub returns : goal.returns

@@ -27,4 +27,4 @@ pub returns-then-count-store : goal.returns-then-count-store
 returns-then-count-store c = (λ h. absurd (false≢true h), λ h. refl)
 
 pub returns : goal.returns
-returns c = (λ h. runs.vector-made _ _ _ _ _ _ _ c.if-count-eq0.false c.requires.r c.if-t-gt8.false c.if-t-ne1.false (sym c.text_is.ensures ∙ c.if-text_is.false) c.find-i.ensures c.if-i-n.false c.if-store-i-eq2.false c.if-count-store.false c.change_bits.ensures, λ h. absurd (true≢false h))
+returns c = (λ h. runs.vector-made _ _ _ _ _ _ _ c.if-count-eq0.false c.requires.3 c.if-t-gt8.false c.if-t-ne1.false (sym c.text_is.ensures ∙ c.if-text_is.false) c.find-i.ensures c.if-i-n.false c.if-store-i-eq2.false c.if-count-store.false c.change_bits.ensures, λ h. absurd (true≢false h))

@@ -9,19 +9,19 @@ use Rattle.dump_reader.proofs.piece.read_bytes.Goals as goal
 
 -- src/piece.rt:140:5
 pub loop-i-init : goal.loop-i-init
-loop-i-init c = (omega arith, c.requires.o, c.requires.v, refl, refl)
+loop-i-init c = (omega arith, c.requires.0, c.requires.1, refl, refl)
 
 -- src/piece.rt:141:13
 pub ahead-p-requires : goal.ahead-p-requires
-ahead-p-requires c = (c.loop-i.invariant.1, c.loop-i.invariant.2, omega (arith, c.loop-i.invariant.3, c.requires.e), c.loop-i-test.true)
+ahead-p-requires c = (c.loop-i.invariant.1, c.loop-i.invariant.2, omega (arith, c.loop-i.invariant.3, c.requires.2), c.loop-i-test.true)
 
 -- src/piece.rt:145:13
 pub shape_of-store-then-at-bytes : goal.shape_of-store-then-at-bytes
-shape_of-store-then-at-bytes c = c.ahead-p.auto.1.1.1.0 ∙ c.loop-i.invariant.1 ∙ sym c.requires.o
+shape_of-store-then-at-bytes c = c.ahead-p.auto.1.1.1.0 ∙ c.loop-i.invariant.1 ∙ sym c.requires.0
 
 -- src/piece.rt:145:13
 pub shape_of-digits-then-at-bytes : goal.shape_of-digits-then-at-bytes
-shape_of-digits-then-at-bytes c = c.ahead-p.auto.1.1.1.1.0 ∙ c.loop-i.invariant.2 ∙ sym c.requires.v
+shape_of-digits-then-at-bytes c = c.ahead-p.auto.1.1.1.1.0 ∙ c.loop-i.invariant.2 ∙ sym c.requires.1
 
 -- src/piece.rt:145:13
 pub shape_of-frames-then-at-bytes : goal.shape_of-frames-then-at-bytes
@@ -33,11 +33,11 @@ returns-then-at-bytes c = runs.gone-end _ _ _ c.loop-i.i c.loop-i.invariant.4 _ 
 
 -- src/piece.rt:148:13
 pub shape_of-store-then-is_refused : goal.shape_of-store-then-is_refused
-shape_of-store-then-is_refused c = c.ahead-p.auto.1.1.1.0 ∙ c.loop-i.invariant.1 ∙ sym c.requires.o
+shape_of-store-then-is_refused c = c.ahead-p.auto.1.1.1.0 ∙ c.loop-i.invariant.1 ∙ sym c.requires.0
 
 -- src/piece.rt:148:13
 pub shape_of-digits-then-is_refused : goal.shape_of-digits-then-is_refused
-shape_of-digits-then-is_refused c = c.ahead-p.auto.1.1.1.1.0 ∙ c.loop-i.invariant.2 ∙ sym c.requires.v
+shape_of-digits-then-is_refused c = c.ahead-p.auto.1.1.1.1.0 ∙ c.loop-i.invariant.2 ∙ sym c.requires.1
 
 -- src/piece.rt:148:13
 pub shape_of-frames-then-is_refused : goal.shape_of-frames-then-is_refused
@@ -53,7 +53,7 @@ bounds-bytes-at c = c.if-at-bytes.false
 
 -- src/piece.rt:150:9
 pub read_byte-s-requires : goal.read_byte-s-requires
-read_byte-s-requires c = (c.ahead-p.auto.1.1.1.0 ∙ c.loop-i.invariant.1, c.ahead-p.auto.1.1.1.1.0 ∙ c.loop-i.invariant.2, omega (arith, c.ahead-p.auto.1.1.1.1.1.0, c.loop-i.invariant.3, c.requires.e))
+read_byte-s-requires c = (c.ahead-p.auto.1.1.1.0 ∙ c.loop-i.invariant.1, c.ahead-p.auto.1.1.1.1.0 ∙ c.loop-i.invariant.2, omega (arith, c.ahead-p.auto.1.1.1.1.1.0, c.loop-i.invariant.3, c.requires.2))
 
 -- src/piece.rt:151:13
 pub overflow_add-i : goal.overflow_add-i
@@ -69,11 +69,11 @@ loop-i-preserved c = (omega (arith, c.if-at-bytes.false), c.read_byte-s.auto.1.1
 
 -- src/piece.rt:134:1
 pub shape_of-store : goal.shape_of-store
-shape_of-store c = c.loop-i.invariant.1 ∙ sym c.requires.o
+shape_of-store c = c.loop-i.invariant.1 ∙ sym c.requires.0
 
 -- src/piece.rt:134:1
 pub shape_of-digits : goal.shape_of-digits
-shape_of-digits c = c.loop-i.invariant.2 ∙ sym c.requires.v
+shape_of-digits c = c.loop-i.invariant.2 ∙ sym c.requires.1
 
 -- src/piece.rt:134:1
 pub shape_of-frames : goal.shape_of-frames

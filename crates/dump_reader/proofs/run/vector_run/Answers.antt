@@ -9,11 +9,11 @@ use Rattle.dump_reader.proofs.run.vector_run.Goals as goal
 
 -- src/run.rt:75:5
 pub loop-i-init : goal.loop-i-init
-loop-i-init c = (omega arith, omega arith, omega arith, c.requires.v, λ a g. refl)
+loop-i-init c = (omega arith, omega arith, omega arith, c.requires.1, λ a g. refl)
 
 -- src/run.rt:79:13
 pub shape_of-digits-then-v-eq3 : goal.shape_of-digits-then-v-eq3
-shape_of-digits-then-v-eq3 c = c.loop-i.invariant.3 ∙ sym c.requires.v
+shape_of-digits-then-v-eq3 c = c.loop-i.invariant.3 ∙ sym c.requires.1
 
 -- src/run.rt:79:13
 pub returns-then-v-eq3 : goal.returns-then-v-eq3
@@ -21,7 +21,7 @@ returns-then-v-eq3 c = (c.loop-i.invariant.0, c.loop-i.invariant.1, c.loop-i.inv
 
 -- src/run.rt:82:13
 pub shape_of-digits-then-count-ge4096 : goal.shape_of-digits-then-count-ge4096
-shape_of-digits-then-count-ge4096 c = c.loop-i.invariant.3 ∙ sym c.requires.v
+shape_of-digits-then-count-ge4096 c = c.loop-i.invariant.3 ∙ sym c.requires.1
 
 -- src/run.rt:82:13
 pub returns-then-count-ge4096 : goal.returns-then-count-ge4096
@@ -33,7 +33,7 @@ loop-i-preserved c = (omega arith, omega arith, omega arith, simp length-set c.l
 
 -- src/run.rt:69:1
 pub shape_of-digits : goal.shape_of-digits
-shape_of-digits c = c.loop-i.invariant.3 ∙ sym c.requires.v
+shape_of-digits c = c.loop-i.invariant.3 ∙ sym c.requires.1
 
 -- src/run.rt:69:1
 pub returns : goal.returns

@@ -4,7 +4,7 @@ use native.Mathlib.Omega.{arith}
 use Rattle.dump_values.proofs.put.put_wire.Goals as goal
 
 pub bounds-store-w-4 : goal.bounds-store-w-4
-bounds-store-w-4 c = simp length-set (omega (arith, c.requires.o, c.requires.v, c.requires.e))
+bounds-store-w-4 c = simp length-set (omega (arith, c.requires.0, c.requires.1, c.requires.2))
 
 pub returns : goal.returns
 unfolding put_wire

@@ -6,7 +6,7 @@ use Rattle.dump_values.proofs.span.change_bits.Goals as goal
 
 -- src/span.rt:58:5
 pub loop-e-init : goal.loop-e-init
-loop-e-init c = (c.requires.o, refl)
+loop-e-init c = (c.requires.0, refl)
 
 -- src/span.rt:58:5
 pub loop-e-preserved : goal.loop-e-preserved

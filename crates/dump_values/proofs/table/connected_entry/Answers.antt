@@ -5,7 +5,7 @@ use native.Mathlib.Omega.{arith}
 use Rattle.dump_values.proofs.table.connected_entry.Goals as goal
 
 pub bounds-store-i-3 : goal.bounds-store-i-3
-bounds-store-i-3 c = simp length-set (omega (arith, c.requires.o, c.requires.v, c.requires.e))
+bounds-store-i-3 c = simp length-set (omega (arith, c.requires.0, c.requires.1, c.requires.2))
 
 pub shape_of-store : goal.shape_of-store
 shape_of-store c = c.put_value.auto.0 ∙ simp length-set

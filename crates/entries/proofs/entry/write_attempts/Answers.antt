@@ -11,7 +11,7 @@ use Rattle.entries.proofs.entry.write_attempts.Goals as goal
 pub loop-rest-init : goal.loop-rest-init
 loop-rest-init c =
     let a = c.args in
-    writing-none a.lost a.t a.list.now a.at c.requires.v c.ranges.lost.fits
+    writing-none a.lost a.t a.list.now a.at c.requires.1 c.ranges.lost.fits
 
 -- a word that is not 0 has a highest bit, and its attempt began after cycle 0
 some : (c : goal.In-loop-rest) → 0 < c.loop-rest.rest
@@ -30,7 +30,7 @@ pub write_entry-next-requires : goal.write_entry-next-requires
 write_entry-next-requires c =
     let l = c.before in
     let s = l.before in
-    (s.requires.o, omega (arith, top-young l.loop-rest.invariant (some l)), room l.loop-rest.invariant (some l) s.requires.e)
+    (s.requires.0, omega (arith, top-young l.loop-rest.invariant (some l)), room l.loop-rest.invariant (some l) s.requires.2)
 
 pub overflow_sub-rest : goal.overflow_sub-rest
 overflow_sub-rest c =

@@ -18,7 +18,7 @@ in_rows : (l : goal.In-loop-k) → l.loop-k.k * (start l).args.cycles + cycle l 
 in_rows l = row_in (start l).args.checkers (start l).args.cycles l.loop-k.k (cycle l) (omega (arith, l.loop-k-test.true)) l.search-test.true
 
 small : (l : goal.In-loop-k) → (start l).args.checkers * (start l).args.cycles ≤ 4194304
-small l = place-small (start l).args.checkers (start l).args.cycles (start l).requires.o (start l).requires.v
+small l = place-small (start l).args.checkers (start l).args.cycles (start l).requires.0 (start l).requires.1
 
 pub search-init : goal.search-init
 search-init c = (refl, omega arith, clean-none c.args.checkers c.args.cycles c.args.rows.now)
@@ -42,7 +42,7 @@ pub fails-requires : goal.fails-requires
 fails-requires c = tt
 
 pub overflow_step-k : goal.overflow_step-k
-overflow_step-k c = let l = c.before.before in omega (arith, l.loop-k-test.true, (start l).requires.o)
+overflow_step-k c = let l = c.before.before in omega (arith, l.loop-k-test.true, (start l).requires.0)
 
 pub loop-k-smaller : goal.loop-k-smaller
 loop-k-smaller c = omega (arith, c.loop-k-test.true)
@@ -60,7 +60,7 @@ loop-k-preserved c =
     )
 
 pub overflow_step-t : goal.overflow_step-t
-overflow_step-t c = omega (arith, c.search-test.true, c.requires.v)
+overflow_step-t c = omega (arith, c.search-test.true, c.requires.1)
 
 pub search-smaller : goal.search-smaller
 search-smaller c = omega (arith, c.search-test.true)

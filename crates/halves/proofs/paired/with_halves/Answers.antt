@@ -84,7 +84,7 @@ onto-requires c i h =
       arith,
       all-counted c i h,
       marks-le args.rows.now i args.from (args.from + args.half + args.half),
-      c.requires.v i h,
+      c.requires.by_index i h,
     )
 
 pub returns : goal.returns

@@ -5,10 +5,10 @@ use Rattle.kept_words.proofs.Scans.{passed_none, passed-one, first-at, first-non
 use Rattle.kept_words.proofs.scan.first_by_one.Goals as goal
 
 pub loop-t-init : goal.loop-t-init
-loop-t-init c = let s = c.before.before in passed_none s.args.c s.args.words.now s.args.from s.args.to s.requires.v
+loop-t-init c = let s = c.before.before in passed_none s.args.c s.args.words.now s.args.from s.args.to s.requires.1
 
 pub is_possible-requires : goal.is_possible-requires
-is_possible-requires c = c.requires.o
+is_possible-requires c = c.requires.0
 
 pub returns-then-not-is_possible : goal.returns-then-not-is_possible
 returns-then-not-is_possible c =

@@ -10,7 +10,7 @@ unfolding every
 loop-i-init c = (omega arith, refl)
 
 pub misfit-bits-requires : goal.misfit-bits-requires
-misfit-bits-requires c = c.requires.o
+misfit-bits-requires c = c.requires.0
 
 pub loop-i-preserved : goal.loop-i-preserved
 unfolding every

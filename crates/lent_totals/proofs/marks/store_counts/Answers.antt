@@ -34,4 +34,4 @@ pub returns : goal.returns
 returns c =
     let s = c.before in
     let end : c.loop-i.i ≡ marks = omega arith in
-    stored-all s.args.counts.now 0 s.args.t2 marks s.requires.o s.requires.v (rw end at c.loop-i.invariant.0)
+    stored-all s.args.counts.now 0 s.args.t2 marks s.requires.0 s.requires.1 (rw end at c.loop-i.invariant.0)

@@ -9,7 +9,7 @@ use Rattle.marked.proofs.Places.{first_small, picking-none, picking-more}
 use Rattle.marked.proofs.pick.pick_marked.Goals as goal
 
 pub loop-first-init : goal.loop-first-init
-loop-first-init c = picking-none c.args.rows.now c.args.cycles c.args.picked.now c.requires.v
+loop-first-init c = picking-none c.args.rows.now c.args.cycles c.args.picked.now c.requires.1
 
 -- the rows of the word
 width_is : (c : goal.Joined-left-lt32) → (0 < c.if-left-lt32.width) × (c.if-left-lt32.width ≤ 32)
@@ -23,7 +23,7 @@ marks_of-requires c =
     let at = c.before in
     let here = c.loop-first-test.true in
     let whole = at.loop-first.invariant.whole here in
-    omega (arith, at.requires.o)
+    omega (arith, at.requires.0)
 
 pub overflow_sub-marks : goal.overflow_sub-marks
 overflow_sub-marks c = omega (arith, (width_is c.before.before).1)
@@ -40,13 +40,13 @@ store_places-next-requires c =
     let h = width_is j in (
       h.1,
       first_small j.if-left-lt32.width h.1 (λ s. marked a.rows.now (at.loop-first.first + s)) marks.result marks.ensures,
-      omega (arith, h.2, at.requires.o),
+      omega (arith, h.2, at.requires.0),
       at.loop-first.invariant.picks.few,
       at.loop-first.invariant.picks.long,
     )
 
 pub overflow_add-first : goal.overflow_add-first
-overflow_add-first c = let j = c.before in omega (arith, (width_is j).2, j.requires.o)
+overflow_add-first c = let j = c.before in omega (arith, (width_is j).2, j.requires.0)
 
 pub loop-first-smaller : goal.loop-first-smaller
 loop-first-smaller c = let h = width_is c.before in omega (arith, h.0, h.2)

@@ -11,24 +11,24 @@ use Rattle.marked.proofs.pick.store_places.Goals as goal
 
 pub loop-rest-init : goal.loop-rest-init
 loop-rest-init c =
-    let a = c.args in storing-none a.width a.first a.marks a.picked.now a.at c.requires.f c.requires.v
+    let a = c.args in storing-none a.width a.first a.marks a.picked.now a.at c.requires.4 c.requires.1
 
 -- a word that is not 0 has a highest bit, which is one of the width
 some : (c : goal.In-loop-rest) → 0 < c.loop-rest.rest
 some c = omega (arith, c.loop-rest-test.true)
 
 low : (c : goal.In-loop-rest) → highest 32 c.loop-rest.rest < c.args.width
-low c = top-low c.loop-rest.invariant c.requires.o (some c)
+low c = top-low c.loop-rest.invariant c.requires.0 (some c)
 
 room : (c : goal.In-loop-rest) → c.loop-rest.next < block_cycles
 room c =
-    let s = c.before in storing-room c.loop-rest.invariant s.requires.o (some c) (omega (arith, s.requires.e, s.requires.r))
+    let s = c.before in storing-room c.loop-rest.invariant s.requires.0 (some c) (omega (arith, s.requires.2, s.requires.3))
 
 pub overflow_sub-j : goal.overflow_sub-j
-overflow_sub-j c = (top c.loop-rest.invariant c.requires.o (some c)).zeros
+overflow_sub-j c = (top c.loop-rest.invariant c.requires.0 (some c)).zeros
 
 pub overflow_add-picked : goal.overflow_add-picked
-overflow_add-picked c = omega (arith, c.requires.e)
+overflow_add-picked c = omega (arith, c.requires.2)
 
 pub overflow_sub-picked : goal.overflow_sub-picked
 overflow_sub-picked c = omega (arith, low c)
@@ -47,12 +47,12 @@ overflow_add-next c = omega (arith, room c)
 
 pub overflow_sub-rest : goal.overflow_sub-rest
 overflow_sub-rest c =
-    rw (shifted_one (highest 32 c.loop-rest.rest) 32 (omega arith)) (top c.loop-rest.invariant c.requires.o (some c)).below
+    rw (shifted_one (highest 32 c.loop-rest.rest) 32 (omega arith)) (top c.loop-rest.invariant c.requires.0 (some c)).below
 
 pub loop-rest-smaller : goal.loop-rest-smaller
 loop-rest-smaller c =
     let h = highest 32 c.loop-rest.rest in
-    rw (shifted_one h 32 (omega arith)) (omega (arith, (top c.loop-rest.invariant c.requires.o (some c)).below, pow_pos h))
+    rw (shifted_one h 32 (omega arith)) (omega (arith, (top c.loop-rest.invariant c.requires.0 (some c)).below, pow_pos h))
 
 pub loop-rest-preserved : goal.loop-rest-preserved
 loop-rest-preserved c =
@@ -60,7 +60,7 @@ loop-rest-preserved c =
     let at = c.loop-rest in
     let h = highest 32 at.rest in
     rw (shifted_one h 32 (omega arith), add-one at.next)
-    (storing-more at.invariant s.requires.o (some c) (room c) (s.args.first + s.args.width - 1 - h) (omega (arith, low c)))
+    (storing-more at.invariant s.requires.0 (some c) (room c) (s.args.first + s.args.width - 1 - h) (omega (arith, low c)))
 
 pub returns : goal.returns
 returns c = storing-all c.loop-rest.invariant c.loop-rest-test.false

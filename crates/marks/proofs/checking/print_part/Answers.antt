@@ -18,4 +18,4 @@ pub print_checked-requires : goal.print_checked-requires
 print_checked-requires c =
     let start = c.before.before in
     let part = laws.part-frames start.args.n start.args.trace.now in
-    (part start.args.rows.now start.requires.o start.requires.v, part start.args.words.now start.requires.o start.requires.e)
+    (part start.args.rows.now start.requires.0 start.requires.1, part start.args.words.now start.requires.0 start.requires.2)

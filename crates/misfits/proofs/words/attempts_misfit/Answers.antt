@@ -8,7 +8,7 @@ use Rattle.misfits.proofs.Misfits.{or-zero, high_zero}
 use Rattle.misfits.proofs.words.attempts_misfit.Goals as goal
 
 config : (s : goal.Start) → SequenceConfig s.args.c
-config s = sequence-config s.args.c s.requires.o s.requires.v
+config s = sequence-config s.args.c s.requires.0 s.requires.1
 
 pub overflow_sub-high : goal.overflow_sub-high
 overflow_sub-high c = omega (arith, config c.before)
@@ -22,11 +22,11 @@ returns-then-c-eq2 c =
     let s = c.before in
     let a = s.args in
     rw (or-zero (a.word / 2 ^ (a.c.n - 1)) c.second_one.result, high_zero a.word (a.c.n - 1), c.second_one.ensures)
-    (rw (eq-eqb a.c.kind 2 c.if-c-eq2.true) at (possible-are a.c a.word sequence s.requires.v))
+    (rw (eq-eqb a.c.kind 2 c.if-c-eq2.true) at (possible-are a.c a.word sequence s.requires.1))
 
 pub returns : goal.returns
 unfolding possible_of
 returns c =
     let s = c.before in
     let a = s.args in
-    rw (high_zero a.word (a.c.n - 1)) (rw (ne_eqb a.c.kind 2 c.if-c-eq2.false, and-true) at (possible-are a.c a.word sequence s.requires.v))
+    rw (high_zero a.word (a.c.n - 1)) (rw (ne_eqb a.c.kind 2 c.if-c-eq2.false, and-true) at (possible-are a.c a.word sequence s.requires.1))

@@ -19,4 +19,4 @@ overflow_add-too_many-2 c = omega (arith, product c.before)
 pub returns : goal.returns
 returns c =
     let s = c.before in
-    cycles-are (s.args.word % 2 ^ 16) (s.args.word / 2 ^ 48) s.args.c.min s.args.c.n c.wrapping_sub_u64.result (omega arith) (omega (arith, s.ranges.word)) s.requires.o (omega (arith, c.wrapping_sub_u64.type-inv)) c.wrapping_sub_u64.ensures
+    cycles-are (s.args.word % 2 ^ 16) (s.args.word / 2 ^ 48) s.args.c.min s.args.c.n c.wrapping_sub_u64.result (omega arith) (omega (arith, s.ranges.word)) s.requires.0 (omega (arith, c.wrapping_sub_u64.type-inv)) c.wrapping_sub_u64.ensures

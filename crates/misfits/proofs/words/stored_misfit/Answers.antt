@@ -14,14 +14,14 @@ highest c = rw c.width.ensures at c.low_ones.ensures
 
 pub low_ones-requires : goal.low_ones-requires
 low_ones-requires c =
-    let s = c.before in omega (arith, c.width.ensures, width-le s.args.c.p (p-within s.args.c s.requires.o))
+    let s = c.before in omega (arith, c.width.ensures, width-le s.args.c.p (p-within s.args.c s.requires.0))
 
 pub overflow_add-low_ones : goal.overflow_add-low_ones
-overflow_add-low_ones c = let s = c.before in omega (arith, highest c, width_room s.args.c s.requires.o)
+overflow_add-low_ones c = let s = c.before in omega (arith, highest c, width_room s.args.c s.requires.0)
 
 pub above-requires : goal.above-requires
 above-requires c =
-    let s = c.before in omega (arith, highest c, width_room s.args.c s.requires.o, pow_pos (width s.args.c.p))
+    let s = c.before in omega (arith, highest c, width_room s.args.c s.requires.0, pow_pos (width s.args.c.p))
 
 pub returns : goal.returns
 unfolding possible_of
@@ -29,5 +29,5 @@ returns c =
     let s = c.before in
     let w = s.args.word in
     rw (or-zero c.above.result c.untagged.result, c.above.ensures, highest c.before)
-    (stored_is w (2 ^ width s.args.c.p) (pow_pos (width s.args.c.p)) (eqb c.untagged.result 0) c.untagged.ensures (width_room s.args.c s.requires.o)
-    ∙ possible-are s.args.c w transition s.requires.v)
+    (stored_is w (2 ^ width s.args.c.p) (pow_pos (width s.args.c.p)) (eqb c.untagged.result 0) c.untagged.ensures (width_room s.args.c s.requires.0)
+    ∙ possible-are s.args.c w transition s.requires.1)

@@ -18,17 +18,17 @@ highest c = rw (c.width.ensures, pow-add 2 (width (start c).args.c.p) 16) at c.l
 
 pub overflow_add-width : goal.overflow_add-width
 overflow_add-width c =
-    let s = c.before in omega (arith, c.width.ensures, width-le s.args.c.p (p-within s.args.c s.requires.o))
+    let s = c.before in omega (arith, c.width.ensures, width-le s.args.c.p (p-within s.args.c s.requires.0))
 
 pub low_ones-limit-requires : goal.low_ones-limit-requires
 low_ones-limit-requires c =
-    let s = c.before in omega (arith, c.width.ensures, width-le s.args.c.p (p-within s.args.c s.requires.o))
+    let s = c.before in omega (arith, c.width.ensures, width-le s.args.c.p (p-within s.args.c s.requires.0))
 
 pub overflow_add-limit : goal.overflow_add-limit
-overflow_add-limit c = omega (arith, highest c, width_room (start c).args.c (start c).requires.o)
+overflow_add-limit c = omega (arith, highest c, width_room (start c).args.c (start c).requires.0)
 
 pub above-requires : goal.above-requires
-above-requires c = omega (arith, highest c, width_room (start c).args.c (start c).requires.o, pow_pos (width (start c).args.c.p))
+above-requires c = omega (arith, highest c, width_room (start c).args.c (start c).requires.0, pow_pos (width (start c).args.c.p))
 
 pub cycles_misfit-requires : goal.cycles_misfit-requires
 cycles_misfit-requires c =

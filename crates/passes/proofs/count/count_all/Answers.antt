@@ -14,7 +14,7 @@ pub loop-t-init : goal.loop-t-init
 loop-t-init c =
     let s = c.before.before in
     let a = s.args in
-    (zero-le, passing-none a.c a.trace.now s.requires.o s.requires.v, counted_none a.c (frame_at a.trace.now), refl)
+    (zero-le, passing-none a.c a.trace.now s.requires.0 s.requires.1, counted_none a.c (frame_at a.trace.now), refl)
 
 pub run_block-block-requires : goal.run_block-block-requires
 unfolding frames
@@ -59,4 +59,4 @@ returns c =
     let at = c.loop-t in
     let s = c.before.before in
     let all : at.t ≡ frames s.args.trace.now = all-passed (rw c.frames_in-cycles.ensures at c.loop-t-test.false) at.invariant.0 in
-    counted-all s.args.c s.args.trace.now at.t all s.requires.v at.invariant.2
+    counted-all s.args.c s.args.trace.now at.t all s.requires.1 at.invariant.2

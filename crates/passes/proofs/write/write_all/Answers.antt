@@ -17,7 +17,7 @@ loop-t-init c =
     let s = c.before.before in
     let a = s.args in (
       zero-le,
-      passing-none a.c a.trace.now s.requires.o s.requires.v,
+      passing-none a.c a.trace.now s.requires.0 s.requires.1,
       entries_none a.c (frame_at a.trace.now) a.list.now,
       refl,
     )
@@ -38,7 +38,7 @@ write_block-at-requires c =
       at.loop-t.invariant.1,
       run.ensures.0,
       entries_fit a.c (frame_at a.trace.now) at.loop-t.t run.result.cycles at.loop-t.invariant.2 (frames a.trace.now) run.ensures.0.in-trace
-          s.requires.e,
+          s.requires.2,
     )
 
 pub overflow_add-t : goal.overflow_add-t

@@ -15,12 +15,12 @@ top_digit x k h =
     (sym (bit-digit x k ∙ mod-eq_of_lt low), low)
 
 pub overflow_shr-result : goal.overflow_shr-result
-overflow_shr-result c = c.requires.o
+overflow_shr-result c = c.requires.0
 
 pub overflow_cast-result-2 : goal.overflow_cast-result-2
-overflow_cast-result-2 c = omega (arith, top_digit c.args.x c.args.k c.requires.v)
+overflow_cast-result-2 c = omega (arith, top_digit c.args.x c.args.k c.requires.1)
 
 pub returns : goal.returns
 returns c =
-    let top = top_digit c.args.x c.args.k c.requires.v in
+    let top = top_digit c.args.x c.args.k c.requires.1 in
     (top.0, omega (arith, top.1))

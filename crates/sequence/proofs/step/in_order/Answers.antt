@@ -12,14 +12,14 @@ pub low_bits-requires : goal.low_bits-requires
 low_bits-requires c =
     let t = c.turned in
     let s = c.before in
-    turned-within s.args.c.p t.result t.ensures.0 t.ensures.1 (p-within s.args.c s.requires.o)
+    turned-within s.args.c.p t.result t.ensures.0 t.ensures.1 (p-within s.args.c s.requires.0)
 
 pub returns : goal.returns
 returns c = λ i l.
     let t = c.turned in
     let s = c.before in
     let a = s.args in
-    let n : width a.c.p ≡ a.c.n = (sequence-config a.c s.requires.o s.requires.v).p-width in
+    let n : width a.c.p ≡ a.c.n = (sequence-config a.c s.requires.0 s.requires.1).p-width in
     c.low_bits.ensures i (rw (turned-width a.c.p t.result t.ensures.0 t.ensures.1, n) l)
     ∙ ap (λ (x : ℕ). bit x i)
     (value-turned a.c.p t.result t.ensures.0 t.ensures.1 a.wires

@@ -13,7 +13,7 @@ use Rattle.sequence.proofs.step.oldest_row.Goals as goal
 
 -- a word of n bits has no bit above n - 1
 low : (s : goal.Start) (x : ℕ) → x < 2 ^ s.args.n → x < 2 ^ suc (s.args.n - 1)
-low s x h = let n : suc (s.args.n - 1) ≡ s.args.n = omega (arith, s.requires.o) in rw n h
+low s x h = let n : suc (s.args.n - 1) ≡ s.args.n = omega (arith, s.requires.0) in rw n h
 
 sums : (failure doubt : ℕ) (a d : Bool) → failure ≡ to_bit a → doubt ≡ to_bit d → 1 * failure + 32 * doubt ≡ row_of (check_marks a false d)
 unfolding row_of
@@ -23,7 +23,7 @@ none : (x k : ℕ) → bit (bit_and x 0) k ≡ false
 none x k = let z : bit_and x 0 ≡ 0 = omega (arith, and_le_r x 0) in rw z (bit_past 0 0 k (lit< tt) (omega arith))
 
 pub highest_bit-requires : goal.highest_bit-requires
-highest_bit-requires c = let s = c.before in (omega (arith, s.requires.v), low s s.args.ended s.requires.e)
+highest_bit-requires c = let s = c.before in (omega (arith, s.requires.1), low s s.args.ended s.requires.2)
 
 pub overflow_mul-result : goal.overflow_mul-result
 overflow_mul-result c = omega (arith, c.highest_bit.ensures.1)
@@ -39,19 +39,19 @@ pub highest_bit-requires-2 : goal.highest_bit-requires-2
 highest_bit-requires-2 c =
     let s = c.before in
     let a = s.args in
-    (omega (arith, s.requires.v), low s (without a.ended a.unknown) (without-lt a.n a.ended a.unknown s.requires.e))
+    (omega (arith, s.requires.1), low s (without a.ended a.unknown) (without-lt a.n a.ended a.unknown s.requires.2))
 
 pub overflow_mul-result-2 : goal.overflow_mul-result-2
 overflow_mul-result-2 c = omega (arith, c.highest_bit-2.ensures.1)
 
 pub overflow_sub-n-3 : goal.overflow_sub-n-3
-overflow_sub-n-3 c = omega (arith, c.requires.o)
+overflow_sub-n-3 c = omega (arith, c.requires.0)
 
 pub highest_bit-requires-3 : goal.highest_bit-requires-3
 highest_bit-requires-3 c =
     let s = c.before in
     let a = s.args in
-    (omega (arith, s.requires.v), low s (bit_and a.ended a.unknown) (lt_of_le_of_lt (and_le_l a.ended a.unknown) s.requires.e))
+    (omega (arith, s.requires.1), low s (bit_and a.ended a.unknown) (lt_of_le_of_lt (and_le_l a.ended a.unknown) s.requires.2))
 
 pub overflow_mul-result-3 : goal.overflow_mul-result-3
 overflow_mul-result-3 c = omega (arith, c.highest_bit-3.ensures.1)

@@ -18,21 +18,21 @@ start l = l.before.before.before.before.before.before.before
 
 ready : (s : goal.Start)
     → Runnable (fatally s.args.c) s.args.trace.now s.args.rows.now s.args.words.now (settled s.args.s false)
-ready s = settled-runnable false s.requires.o
+ready s = settled-runnable false s.requires.0
 
 low : (l : goal.In-loop-at) → (start l).args.s.from + l.loop-at.at < frames (start l).args.trace.now
-low l = omega (arith, l.loop-at-test.true, (start l).requires.o.in-trace)
+low l = omega (arith, l.loop-at-test.true, (start l).requires.0.in-trace)
 
 pub kept_at_end-last-requires : goal.kept_at_end-last-requires
-kept_at_end-last-requires c = (c.requires.o.low, c.requires.o.words-hold)
+kept_at_end-last-requires c = (c.requires.0.low, c.requires.0.words-hold)
 
 pub loop-at-init : goal.loop-at-init
 loop-at-init c =
     let s = c.before.before in
-    (filling-none (fatally s.args.c) s.args.trace.now s.args.rows.now s.args.words.now (settled s.args.s false) (ready s) refl, s.requires.e)
+    (filling-none (fatally s.args.c) s.args.trace.now s.args.rows.now s.args.words.now (settled s.args.s false) (ready s) refl, s.requires.2)
 
 pub overflow_add-from : goal.overflow_add-from
-overflow_add-from c = omega (arith, low c, (start c).requires.o.short)
+overflow_add-from c = omega (arith, low c, (start c).requires.0.short)
 
 pub events_at-requires : goal.events_at-requires
 events_at-requires c =
@@ -55,30 +55,30 @@ events_cycle-next-requires c =
     (done.0, s.pre.1, done.1)
 
 pub offset_bounds-rows-at : goal.offset_bounds-rows-at
-offset_bounds-rows-at c = let l = c.before.before in omega (arith, low l, (start l).requires.o.short)
+offset_bounds-rows-at c = let l = c.before.before in omega (arith, low l, (start l).requires.0.short)
 
 pub bounds-rows-at : goal.bounds-rows-at
 bounds-rows-at c =
-    let l = c.before.before in omega (arith, l.loop-at-test.true, l.loop-at.invariant.0.rows_are.same_length, (start l).requires.o.rows-hold)
+    let l = c.before.before in omega (arith, l.loop-at-test.true, l.loop-at.invariant.0.rows_are.same_length, (start l).requires.0.rows-hold)
 
 pub offset_bounds-words-at : goal.offset_bounds-words-at
-offset_bounds-words-at c = let l = c.before.before in omega (arith, low l, (start l).requires.o.short)
+offset_bounds-words-at c = let l = c.before.before in omega (arith, low l, (start l).requires.0.short)
 
 pub bounds-words-at : goal.bounds-words-at
 bounds-words-at c =
     let l = c.before.before in
-    omega (arith, l.loop-at-test.true, l.loop-at.invariant.0.words_are.same_length, (start l).requires.o.words-hold)
+    omega (arith, l.loop-at-test.true, l.loop-at.invariant.0.words_are.same_length, (start l).requires.0.words-hold)
 
 pub offset_bounds-words-at-then-fails : goal.offset_bounds-words-at-then-fails
-offset_bounds-words-at-then-fails c = let l = c.before.before in omega (arith, low l, (start l).requires.o.short)
+offset_bounds-words-at-then-fails c = let l = c.before.before in omega (arith, low l, (start l).requires.0.short)
 
 pub bounds-words-at-then-fails : goal.bounds-words-at-then-fails
 bounds-words-at-then-fails c =
     let l = c.before.before in
-    omega (arith, l.loop-at-test.true, l.loop-at.invariant.0.words_are.same_length, (start l).requires.o.words-hold)
+    omega (arith, l.loop-at-test.true, l.loop-at.invariant.0.words_are.same_length, (start l).requires.0.words-hold)
 
 pub overflow_add-behind : goal.overflow_add-behind
-overflow_add-behind c = let l = c.before.before in omega (arith, low l, (start l).requires.o.short)
+overflow_add-behind c = let l = c.before.before in omega (arith, low l, (start l).requires.0.short)
 
 pub returns-then-fails : goal.returns-then-fails
 returns-then-fails c =
@@ -99,15 +99,15 @@ pub shape_of-words-then-fails : goal.shape_of-words-then-fails
 shape_of-words-then-fails c = (returns-then-fails c).come.words_are.same_length
 
 pub offset_bounds-words-at-in-loop-at : goal.offset_bounds-words-at-in-loop-at
-offset_bounds-words-at-in-loop-at c = let l = c.before.before in omega (arith, low l, (start l).requires.o.short)
+offset_bounds-words-at-in-loop-at c = let l = c.before.before in omega (arith, low l, (start l).requires.0.short)
 
 pub bounds-words-at-in-loop-at : goal.bounds-words-at-in-loop-at
 bounds-words-at-in-loop-at c =
     let l = c.before.before in
-    omega (arith, l.loop-at-test.true, l.loop-at.invariant.0.words_are.same_length, (start l).requires.o.words-hold)
+    omega (arith, l.loop-at-test.true, l.loop-at.invariant.0.words_are.same_length, (start l).requires.0.words-hold)
 
 pub overflow_add-at : goal.overflow_add-at
-overflow_add-at c = let l = c.before.before in omega (arith, low l, (start l).requires.o.short)
+overflow_add-at c = let l = c.before.before in omega (arith, low l, (start l).requires.0.short)
 
 pub loop-at-smaller : goal.loop-at-smaller
 loop-at-smaller c = let l = c.before.before in omega (arith, l.loop-at-test.true)
@@ -135,7 +135,7 @@ returns c =
     let s = c.before.before in
     let end : at.at ≡ s.args.s.to = omega (arith, at.invariant.0.high) in
     rw end
-    (settled-watched s.requires.r
+    (settled-watched s.requires.3
     (ran-watched
     (filled (fatally s.args.c) s.args.trace.now s.args.rows.now s.args.words.now (settled s.args.s false) (ready s) refl at.rows at.words
     at.word _ (rw end at at.invariant.0) c.kept_at_end-last.ensures)))

@@ -17,16 +17,16 @@ abbrev start : goal.Else-word-kept → goal.Start
 start l = l.before.before.before.before.before.before.before
 
 low : (l : goal.Else-word-kept) → (start l).args.s.from + l.loop-at.at < frames (start l).args.trace.now
-low l = omega (arith, l.loop-at-test.true, (start l).requires.o.in-trace)
+low l = omega (arith, l.loop-at-test.true, (start l).requires.0.in-trace)
 
 ready : (s : goal.Start)
     → Runnable (fatally s.args.c) s.args.trace.now s.args.rows.now s.args.words.now (settled s.args.s true)
-ready s = settled-runnable true s.requires.o
+ready s = settled-runnable true s.requires.0
 
 pub loop-at-init : goal.loop-at-init
 loop-at-init c =
     let s = c.before.before in
-    (running_none (fatally s.args.c) s.args.trace.now s.args.rows.now s.args.words.now (settled s.args.s true) (ready s), s.requires.e)
+    (running_none (fatally s.args.c) s.args.trace.now s.args.rows.now s.args.words.now (settled s.args.s true) (ready s), s.requires.2)
 
 pub shape_of-rows-then-word-kept : goal.shape_of-rows-then-word-kept
 shape_of-rows-then-word-kept c = c.loop-at.invariant.0.rows_are.same_length
@@ -38,10 +38,10 @@ pub returns-then-word-kept : goal.returns-then-word-kept
 returns-then-word-kept c =
     let at = c.loop-at in
     let s = c.before.before in
-    settled-watched s.requires.r (record { come = at.invariant.0; ended = λ _ _. (refl, c.if-word-kept.true) })
+    settled-watched s.requires.3 (record { come = at.invariant.0; ended = λ _ _. (refl, c.if-word-kept.true) })
 
 pub overflow_add-from : goal.overflow_add-from
-overflow_add-from c = omega (arith, low c, (start c).requires.o.short)
+overflow_add-from c = omega (arith, low c, (start c).requires.0.short)
 
 pub events_at-requires : goal.events_at-requires
 events_at-requires c =
@@ -64,31 +64,31 @@ events_cycle-next-requires c =
     (ready.0, s.pre.1, ready.1)
 
 pub offset_bounds-words-at : goal.offset_bounds-words-at
-offset_bounds-words-at c = let l = c.before.before in omega (arith, low l, (start l).requires.o.short)
+offset_bounds-words-at c = let l = c.before.before in omega (arith, low l, (start l).requires.0.short)
 
 pub bounds-words-at : goal.bounds-words-at
 bounds-words-at c =
     let l = c.before.before in
-    omega (arith, l.loop-at-test.true, l.loop-at.invariant.0.words_are.same_length, (start l).requires.o.words-hold)
+    omega (arith, l.loop-at-test.true, l.loop-at.invariant.0.words_are.same_length, (start l).requires.0.words-hold)
 
 pub offset_bounds-rows-at : goal.offset_bounds-rows-at
-offset_bounds-rows-at c = let l = c.before.before in omega (arith, low l, (start l).requires.o.short)
+offset_bounds-rows-at c = let l = c.before.before in omega (arith, low l, (start l).requires.0.short)
 
 pub bounds-rows-at : goal.bounds-rows-at
 bounds-rows-at c =
     let l = c.before.before in
-    omega (arith, l.loop-at-test.true, l.loop-at.invariant.0.rows_are.same_length, (start l).requires.o.rows-hold)
+    omega (arith, l.loop-at-test.true, l.loop-at.invariant.0.rows_are.same_length, (start l).requires.0.rows-hold)
 
 pub offset_bounds-words-at-then-fails : goal.offset_bounds-words-at-then-fails
-offset_bounds-words-at-then-fails c = let l = c.before.before in omega (arith, low l, (start l).requires.o.short)
+offset_bounds-words-at-then-fails c = let l = c.before.before in omega (arith, low l, (start l).requires.0.short)
 
 pub bounds-words-at-then-fails : goal.bounds-words-at-then-fails
 bounds-words-at-then-fails c =
     let l = c.before.before in
-    omega (arith, l.loop-at-test.true, l.loop-at.invariant.0.words_are.same_length, (start l).requires.o.words-hold)
+    omega (arith, l.loop-at-test.true, l.loop-at.invariant.0.words_are.same_length, (start l).requires.0.words-hold)
 
 pub overflow_add-behind : goal.overflow_add-behind
-overflow_add-behind c = let l = c.before.before in omega (arith, low l, (start l).requires.o.short)
+overflow_add-behind c = let l = c.before.before in omega (arith, low l, (start l).requires.0.short)
 
 pub returns-then-fails : goal.returns-then-fails
 returns-then-fails c =
@@ -110,15 +110,15 @@ pub shape_of-words-then-fails : goal.shape_of-words-then-fails
 shape_of-words-then-fails c = (returns-then-fails c).come.words_are.same_length
 
 pub offset_bounds-words-at-in-loop-at : goal.offset_bounds-words-at-in-loop-at
-offset_bounds-words-at-in-loop-at c = let l = c.before.before in omega (arith, low l, (start l).requires.o.short)
+offset_bounds-words-at-in-loop-at c = let l = c.before.before in omega (arith, low l, (start l).requires.0.short)
 
 pub bounds-words-at-in-loop-at : goal.bounds-words-at-in-loop-at
 bounds-words-at-in-loop-at c =
     let l = c.before.before in
-    omega (arith, l.loop-at-test.true, l.loop-at.invariant.0.words_are.same_length, (start l).requires.o.words-hold)
+    omega (arith, l.loop-at-test.true, l.loop-at.invariant.0.words_are.same_length, (start l).requires.0.words-hold)
 
 pub overflow_add-at : goal.overflow_add-at
-overflow_add-at c = let l = c.before.before in omega (arith, low l, (start l).requires.o.short)
+overflow_add-at c = let l = c.before.before in omega (arith, low l, (start l).requires.0.short)
 
 pub loop-at-smaller : goal.loop-at-smaller
 loop-at-smaller c = let l = c.before.before in omega (arith, l.loop-at-test.true)
@@ -144,4 +144,4 @@ shape_of-words c = c.loop-at.invariant.0.words_are.same_length
 pub returns : goal.returns
 returns c =
     let s = c.before.before in
-    settled-watched s.requires.r (record { come = c.loop-at.invariant.0; ended = λ _ l. absurd (omega arith) })
+    settled-watched s.requires.3 (record { come = c.loop-at.invariant.0; ended = λ _ l. absurd (omega arith) })

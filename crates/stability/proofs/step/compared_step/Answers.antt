@@ -17,19 +17,19 @@ use Rattle.stability.proofs.step.compared_step.Goals as goal
 
 -- what is known of the configuration and the word
 low : (s : goal.Start) → s.args.c.min ≤ s.args.c.n
-low s = (stability-config s.args.c s.requires.o s.requires.v).low
+low s = (stability-config s.args.c s.requires.0 s.requires.1).low
 
 some : (s : goal.Start) → 0 < s.args.word
-some s = omega (arith, s.requires.r)
+some s = omega (arith, s.requires.3)
 
 parts : (s : goal.Start) → WordParts s.args.c s.args.word
-parts s = word-parts s.args.c s.args.word s.requires.v (stability-config s.args.c s.requires.o s.requires.v).high s.requires.e
+parts s = word-parts s.args.c s.args.word s.requires.1 (stability-config s.args.c s.requires.0 s.requires.1).high s.requires.2
 
 left : (s : goal.Start) → 0 < left_in s.args.word
 left s = (parts s).some_left (some s)
 
 tested : (s : goal.Start) → leb (left_in s.args.word - 1) (s.args.c.n - s.args.c.min) ≡ true
-tested s = le-leb (left_in s.args.word - 1) (s.args.c.n - s.args.c.min) (omega (arith, (parts s).compared-low s.requires.r))
+tested s = le-leb (left_in s.args.word - 1) (s.args.c.n - s.args.c.min) (omega (arith, (parts s).compared-low s.requires.3))
 
 -- the row says whether the reference differs, and whether this is the last cycle
 abbrev start : goal.After-window_row-row → goal.Start
@@ -48,12 +48,12 @@ pub returns-then-last : goal.returns-then-last
 returns-then-last c = λ f on tracks.
     let s = c.before in
     compared-steps s.args.c s.args.word f (low s) (left_in s.args.word - 1) false (no-trigger _ _ _ (some s)) (open-window _ _ _ (some s))
-    (left-of _ _ _ (some s) (left_in s.args.word)) (le-leb (2 ^ 48) s.args.word s.requires.r) (tested s) c.window_row-row.result 0 (row_is c.before f on tracks)
+    (left-of _ _ _ (some s) (left_in s.args.word)) (le-leb (2 ^ 48) s.args.word s.requires.3) (tested s) c.window_row-row.result 0 (row_is c.before f on tracks)
     (rw (sym (last-left _ (left s)) ∙ c.if-last.true) refl)
 
 pub returns-else-last : goal.returns-else-last
 returns-else-last c = λ f on tracks.
     let s = c.before in
     compared-steps s.args.c s.args.word f (low s) (left_in s.args.word - 1) false (no-trigger _ _ _ (some s)) (open-window _ _ _ (some s))
-    (left-of _ _ _ (some s) (left_in s.args.word)) (le-leb (2 ^ 48) s.args.word s.requires.r) (tested s) c.window_row-row.result (s.args.word - 1) (row_is c.before f on tracks)
-    (rw (sym (last-left _ (left s)) ∙ c.if-last.false) (word-before s.args.word s.requires.r (left s)))
+    (left-of _ _ _ (some s) (left_in s.args.word)) (le-leb (2 ^ 48) s.args.word s.requires.3) (tested s) c.window_row-row.result (s.args.word - 1) (row_is c.before f on tracks)
+    (rw (sym (last-left _ (left s)) ∙ c.if-last.false) (word-before s.args.word s.requires.3 (left s)))

@@ -17,20 +17,20 @@ use Rattle.trigger.proofs.TriggerCode.{first-steps, window-trigger, window-left,
 use Rattle.stability.proofs.step.stability_step.Goals as goal
 
 low : (s : goal.Start) → s.args.c.min ≤ s.args.c.n
-low s = (stability-config s.args.c s.requires.o s.requires.v).low
+low s = (stability-config s.args.c s.requires.0 s.requires.1).low
 
 high : (s : goal.Start) → s.args.c.n ≤ max_window
-high s = (stability-config s.args.c s.requires.o s.requires.v).high
+high s = (stability-config s.args.c s.requires.0 s.requires.1).high
 
 -- a word without a reference is the cycles left
 plain : (s : goal.Start) → s.args.word < 2 ^ 48 → s.args.word ≤ s.args.c.n
-plain s = (word-parts s.args.c s.args.word s.requires.v (high s) s.requires.e).plain-low
+plain s = (word-parts s.args.c s.args.word s.requires.1 (high s) s.requires.2).plain-low
 
 abbrev start : goal.Else-word-ge-REFERENCE_HELD → goal.Start
 start e = e.before.before
 
 pub compared_step-requires : goal.compared_step-requires
-compared_step-requires c = let s = c.before in (s.requires.o, s.requires.v, s.requires.e, c.if-word-ge-REFERENCE_HELD.true)
+compared_step-requires c = let s = c.before in (s.requires.0, s.requires.1, s.requires.2, c.if-word-ge-REFERENCE_HELD.true)
 
 pub returns-then-word-ge-REFERENCE_HELD : goal.returns-then-word-ge-REFERENCE_HELD
 returns-then-word-ge-REFERENCE_HELD c = λ f o. c.compared_step.ensures f

@@ -11,16 +11,16 @@ abbrev start : goal.In-loop-k → goal.Start
 start l = l.before.before
 
 pub loop-k-init : goal.loop-k-init
-loop-k-init c = (omega arith, c.requires.o, written_none (λ (j : ℕ). 0) c.args.at c.args.rows.now)
+loop-k-init c = (omega arith, c.requires.0, written_none (λ (j : ℕ). 0) c.args.at c.args.rows.now)
 
 pub offset_bounds-rows-k : goal.offset_bounds-rows-k
-offset_bounds-rows-k c = omega (arith, c.loop-k-test.true, (start c).requires.e)
+offset_bounds-rows-k c = omega (arith, c.loop-k-test.true, (start c).requires.2)
 
 pub bounds-rows-k : goal.bounds-rows-k
-bounds-rows-k c = omega (arith, c.loop-k-test.true, c.loop-k.invariant.2.same_length, (start c).requires.v)
+bounds-rows-k c = omega (arith, c.loop-k-test.true, c.loop-k.invariant.2.same_length, (start c).requires.1)
 
 pub overflow_add-k : goal.overflow_add-k
-overflow_add-k c = omega (arith, c.loop-k-test.true, (start c).requires.e)
+overflow_add-k c = omega (arith, c.loop-k-test.true, (start c).requires.2)
 
 pub loop-k-smaller : goal.loop-k-smaller
 loop-k-smaller c = omega (arith, c.loop-k-test.true)

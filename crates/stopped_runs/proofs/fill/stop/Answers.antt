@@ -12,16 +12,16 @@ abbrev start : goal.In-loop-k → goal.Start
 start l = l.before.before
 
 pub loop-k-init : goal.loop-k-init
-loop-k-init c = (omega arith, c.requires.o, written_none (λ (j : ℕ). stopped_word) c.args.at c.args.words.now)
+loop-k-init c = (omega arith, c.requires.0, written_none (λ (j : ℕ). stopped_word) c.args.at c.args.words.now)
 
 pub offset_bounds-words-k : goal.offset_bounds-words-k
-offset_bounds-words-k c = omega (arith, c.loop-k-test.true, (start c).requires.e)
+offset_bounds-words-k c = omega (arith, c.loop-k-test.true, (start c).requires.2)
 
 pub bounds-words-k : goal.bounds-words-k
-bounds-words-k c = omega (arith, c.loop-k-test.true, c.loop-k.invariant.2.same_length, (start c).requires.v)
+bounds-words-k c = omega (arith, c.loop-k-test.true, c.loop-k.invariant.2.same_length, (start c).requires.1)
 
 pub overflow_add-k : goal.overflow_add-k
-overflow_add-k c = omega (arith, c.loop-k-test.true, (start c).requires.e)
+overflow_add-k c = omega (arith, c.loop-k-test.true, (start c).requires.2)
 
 pub loop-k-smaller : goal.loop-k-smaller
 loop-k-smaller c = omega (arith, c.loop-k-test.true)

@@ -15,7 +15,7 @@ pub loop-at-init : goal.loop-at-init
 loop-at-init c =
     let s = c in
     let a = s.args.s in
-    staying-none a.at a.to true a.kept s.args.rows.now s.args.words.now s.requires.o
+    staying-none a.at a.to true a.kept s.args.rows.now s.args.words.now s.requires.0
 
 pub shape_of-rows-then-kept : goal.shape_of-rows-then-kept
 shape_of-rows-then-kept c = c.loop-at.invariant.rows_are.same_length
@@ -27,31 +27,31 @@ pub returns-then-kept : goal.returns-then-kept
 returns-then-kept c =
     let at = c.loop-at in
     let s = c.before in
-    settled-stayed s.requires.f (record { come = at.invariant; word-is = refl; ended = λ _. (refl, c.if-kept.true) })
+    settled-stayed s.requires.4 (record { come = at.invariant; word-is = refl; ended = λ _. (refl, c.if-kept.true) })
 
 pub offset_bounds-words-at : goal.offset_bounds-words-at
-offset_bounds-words-at c = omega (arith, c.loop-at-test.true, (start c).requires.r)
+offset_bounds-words-at c = omega (arith, c.loop-at-test.true, (start c).requires.3)
 
 pub bounds-words-at : goal.bounds-words-at
 bounds-words-at c =
-    let l = c.before.before in omega (arith, l.loop-at-test.true, l.loop-at.invariant.words_are.same_length, (start l).requires.e)
+    let l = c.before.before in omega (arith, l.loop-at-test.true, l.loop-at.invariant.words_are.same_length, (start l).requires.2)
 
 pub offset_bounds-rows-at : goal.offset_bounds-rows-at
-offset_bounds-rows-at c = let l = c.before in omega (arith, l.loop-at-test.true, (start l).requires.r)
+offset_bounds-rows-at c = let l = c.before in omega (arith, l.loop-at-test.true, (start l).requires.3)
 
 pub bounds-rows-at : goal.bounds-rows-at
 bounds-rows-at c =
-    let l = c.before in omega (arith, l.loop-at-test.true, l.loop-at.invariant.rows_are.same_length, (start l).requires.v)
+    let l = c.before in omega (arith, l.loop-at-test.true, l.loop-at.invariant.rows_are.same_length, (start l).requires.1)
 
 pub offset_bounds-words-at-in-loop-at : goal.offset_bounds-words-at-in-loop-at
-offset_bounds-words-at-in-loop-at c = let l = c.before in omega (arith, l.loop-at-test.true, (start l).requires.r)
+offset_bounds-words-at-in-loop-at c = let l = c.before in omega (arith, l.loop-at-test.true, (start l).requires.3)
 
 pub bounds-words-at-in-loop-at : goal.bounds-words-at-in-loop-at
 bounds-words-at-in-loop-at c =
-    let l = c.before in omega (arith, l.loop-at-test.true, l.loop-at.invariant.words_are.same_length, (start l).requires.e)
+    let l = c.before in omega (arith, l.loop-at-test.true, l.loop-at.invariant.words_are.same_length, (start l).requires.2)
 
 pub overflow_add-at : goal.overflow_add-at
-overflow_add-at c = let l = c.before in omega (arith, l.loop-at-test.true, (start l).requires.r)
+overflow_add-at c = let l = c.before in omega (arith, l.loop-at-test.true, (start l).requires.3)
 
 pub loop-at-smaller : goal.loop-at-smaller
 loop-at-smaller c = let l = c.before in omega (arith, l.loop-at-test.true)
@@ -75,4 +75,4 @@ shape_of-words c = c.loop-at.invariant.words_are.same_length
 pub returns : goal.returns
 returns c =
     let s = c.before in
-    settled-stayed s.requires.f (record { come = c.loop-at.invariant; word-is = refl; ended = λ l. absurd (omega arith) })
+    settled-stayed s.requires.4 (record { come = c.loop-at.invariant; word-is = refl; ended = λ l. absurd (omega arith) })

@@ -30,7 +30,7 @@ bounds-changes-i c = c.loop-i-test.true
 
 -- the numbers are one more than the marks
 due : (s : goal.Start) → length (first s) ≡ 1 + marks
-due s = length-set s.args.answer.now 0 (bits s.args.end) ∙ s.requires.o
+due s = length-set s.args.answer.now 0 (bits s.args.end) ∙ s.requires.0
 
 pub bounds-answer-i : goal.bounds-answer-i
 bounds-answer-i c = omega (arith, due c.before)
@@ -41,7 +41,7 @@ loop-i-preserved c =
     let at = c.loop-i in
     let change = get_or s.args.t3 at.i (pos 0) in
     let low : 1 + at.i < length (first s) = omega (arith, due s) in
-    let few : at.i < length s.args.t3 = omega (arith, s.requires.v) in (
+    let few : at.i < length s.args.t3 = omega (arith, s.requires.1) in (
       rw (to_z-of_z {z = change} (record { sfits = c.answer-1.given })) (stored_more (first s) 1 s.args.t3 at.i (1 + at.i) (pos 0) refl low few at.invariant.0),
       omega arith,
       length-set at.answer (1 + at.i) (bits change) ∙ at.invariant.2,
@@ -55,6 +55,6 @@ returns c =
     let s = c.before in
     let end : c.loop-i.i ≡ marks = omega arith in
     let some : 0 < length s.args.answer.now = omega arith in
-    stored-all (first s) 1 s.args.t3 marks (due s) s.requires.v (rw end at c.loop-i.invariant.0)
+    stored-all (first s) 1 s.args.t3 marks (due s) s.requires.1 (rw end at c.loop-i.invariant.0)
     ∙ ap (λ (l : List ℤ). l ++ s.args.t3) (take-suc-set s.args.answer.now 0 (bits s.args.end) some)
     ∙ ap (λ (z : ℤ). z ∷ s.args.t3) (to_z-of_z s.ranges.end)

@@ -15,10 +15,10 @@ abbrev start : goal.Else-word-kept → goal.Start
 start l = l.before.before.before.before.before.before.before
 
 ready : (s : goal.Start) → Runnable s.args.c s.args.trace.now s.args.rows.now s.args.words.now (settled s.args.s true)
-ready s = settled-runnable true s.requires.o
+ready s = settled-runnable true s.requires.0
 
 low : (l : goal.Else-word-kept) → (start l).args.s.from + l.loop-at.at < frames (start l).args.trace.now
-low l = omega (arith, l.loop-at-test.true, (start l).requires.o.in-trace)
+low l = omega (arith, l.loop-at-test.true, (start l).requires.0.in-trace)
 
 pub loop-at-init : goal.loop-at-init
 loop-at-init c =
@@ -35,47 +35,47 @@ pub returns-then-word-kept : goal.returns-then-word-kept
 returns-then-word-kept c =
     let at = c.loop-at in
     let s = c.before.before in
-    settled-ran s.args.c s.args.trace.now s.args.rows.now s.args.words.now s.args.s true at.rows at.words _ s.requires.e
+    settled-ran s.args.c s.args.trace.now s.args.rows.now s.args.words.now s.args.s true at.rows at.words _ s.requires.2
     (record { come = at.invariant; stopped = λ _. (refl, c.if-word-kept.true) })
 
 pub overflow_add-t : goal.overflow_add-t
-overflow_add-t c = omega (arith, low c, (start c).requires.o.short)
+overflow_add-t c = omega (arith, low c, (start c).requires.0.short)
 
 pub values_at-requires : goal.values_at-requires
-values_at-requires c = ((start c).requires.o.good, low c)
+values_at-requires c = ((start c).requires.0.good, low c)
 
 pub known_at-requires : goal.known_at-requires
-known_at-requires c = let l = c.before.before in ((start l).requires.o.good, low l)
+known_at-requires c = let l = c.before.before in ((start l).requires.0.good, low l)
 
 pub values_cycle-next-requires : goal.values_cycle-next-requires
-values_cycle-next-requires c = let l = c.before.before in ((start l).requires.o.good, (start l).requires.v, l.loop-at.invariant.possible-word)
+values_cycle-next-requires c = let l = c.before.before in ((start l).requires.0.good, (start l).requires.1, l.loop-at.invariant.possible-word)
 
 pub offset_bounds-words-at : goal.offset_bounds-words-at
-offset_bounds-words-at c = let l = c.before.before in omega (arith, low l, (start l).requires.o.short)
+offset_bounds-words-at c = let l = c.before.before in omega (arith, low l, (start l).requires.0.short)
 
 pub bounds-words-at : goal.bounds-words-at
 bounds-words-at c =
     let l = c.before.before in
-    omega (arith, l.loop-at-test.true, l.loop-at.invariant.words_are.same_length, (start l).requires.o.words-hold)
+    omega (arith, l.loop-at-test.true, l.loop-at.invariant.words_are.same_length, (start l).requires.0.words-hold)
 
 pub offset_bounds-rows-at : goal.offset_bounds-rows-at
-offset_bounds-rows-at c = let l = c.before.before in omega (arith, low l, (start l).requires.o.short)
+offset_bounds-rows-at c = let l = c.before.before in omega (arith, low l, (start l).requires.0.short)
 
 pub bounds-rows-at : goal.bounds-rows-at
 bounds-rows-at c =
     let l = c.before.before in
-    omega (arith, l.loop-at-test.true, l.loop-at.invariant.rows_are.same_length, (start l).requires.o.rows-hold)
+    omega (arith, l.loop-at-test.true, l.loop-at.invariant.rows_are.same_length, (start l).requires.0.rows-hold)
 
 pub offset_bounds-words-at-in-loop-at : goal.offset_bounds-words-at-in-loop-at
-offset_bounds-words-at-in-loop-at c = let l = c.before.before in omega (arith, low l, (start l).requires.o.short)
+offset_bounds-words-at-in-loop-at c = let l = c.before.before in omega (arith, low l, (start l).requires.0.short)
 
 pub bounds-words-at-in-loop-at : goal.bounds-words-at-in-loop-at
 bounds-words-at-in-loop-at c =
     let l = c.before.before in
-    omega (arith, l.loop-at-test.true, l.loop-at.invariant.words_are.same_length, (start l).requires.o.words-hold)
+    omega (arith, l.loop-at-test.true, l.loop-at.invariant.words_are.same_length, (start l).requires.0.words-hold)
 
 pub overflow_add-at : goal.overflow_add-at
-overflow_add-at c = let l = c.before.before in omega (arith, low l, (start l).requires.o.short)
+overflow_add-at c = let l = c.before.before in omega (arith, low l, (start l).requires.0.short)
 
 pub loop-at-smaller : goal.loop-at-smaller
 loop-at-smaller c = omega (arith, c.loop-at-test.true)
@@ -101,5 +101,5 @@ pub returns : goal.returns
 returns c =
     let at = c.loop-at in
     let s = c.before.before in
-    settled-ran s.args.c s.args.trace.now s.args.rows.now s.args.words.now s.args.s true at.rows at.words _ s.requires.e
+    settled-ran s.args.c s.args.trace.now s.args.rows.now s.args.words.now s.args.s true at.rows at.words _ s.requires.2
     (record { come = at.invariant; stopped = λ l. absurd (omega arith) })

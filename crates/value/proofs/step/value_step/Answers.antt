@@ -13,12 +13,12 @@ returns-then-word-ne0 c =
     let s = c.before in
     let a = s.args in
     let some : 0 < a.word = omega (arith, c.if-word-ne0.true) in
-    value-steps a.c a.word a.frame (value-config a.c s.requires.o s.requires.v).low _ false (no-trigger a.c a.word a.frame some)
+    value-steps a.c a.word a.frame (value-config a.c s.requires.0 s.requires.1).low _ false (no-trigger a.c a.word a.frame some)
     (open-window a.c a.word a.frame some) (left-of a.c a.word a.frame some a.word) c.Value-row.result c.Value-row.ensures
 
 pub sees_trigger-requires : goal.sees_trigger-requires
 sees_trigger-requires c =
-    let s = c.before in (q-within s.args.c s.requires.o, (value-config s.args.c s.requires.o s.requires.v).q-width, s.requires.r)
+    let s = c.before in (q-within s.args.c s.requires.0, (value-config s.args.c s.requires.0 s.requires.1).q-width, s.requires.3)
 
 pub returns-then-not-sees_trigger : goal.returns-then-not-sees_trigger
 returns-then-not-sees_trigger c =
@@ -31,5 +31,5 @@ returns c =
     let a = s.args in
     let z = c.if-word-ne0.false in
     let seen = sym c.sees_trigger.ensures ∙ not-false _ c.if-not-sees_trigger.false in
-    value-steps a.c a.word a.frame (value-config a.c s.requires.o s.requires.v).low a.c.n true (opened-trigger a.c a.word a.frame z seen)
+    value-steps a.c a.word a.frame (value-config a.c s.requires.0 s.requires.1).low a.c.n true (opened-trigger a.c a.word a.frame z seen)
     (opened-window a.c a.word a.frame z seen) (opened-left a.c a.word a.frame z seen a.word) c.value_row-2.result c.value_row-2.ensures

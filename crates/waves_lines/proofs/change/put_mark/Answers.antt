@@ -16,11 +16,11 @@ pub put_change-requires : goal.put_change-requires
 put_change-requires c =
     let s = c.before in
     let a = s.args in
-    rw (shifted_one a.i 32 (omega (arith, s.requires.v))) (
+    rw (shifted_one a.i 32 (omega (arith, s.requires.1))) (
       omega arith,
-      s.requires.o,
-      small-mark a.i s.requires.v,
-      omega (arith, s.requires.e, ap length (other-mark a.row a.before a.checker a.i c.if-value-before.false)),
+      s.requires.0,
+      small-mark a.i s.requires.1,
+      omega (arith, s.requires.2, ap length (other-mark a.row a.before a.checker a.i c.if-value-before.false)),
     )
 
 pub shape_of-out : goal.shape_of-out
@@ -30,5 +30,5 @@ pub returns : goal.returns
 returns c =
     let s = c.before.before in
     let a = s.args in
-    let put = rw (shifted_one a.i 32 (omega (arith, s.requires.v))) at c.put_change.ensures in
+    let put = rw (shifted_one a.i 32 (omega (arith, s.requires.1))) at c.put_change.ensures in
     rw (other-mark a.row a.before a.checker a.i c.if-value-before.false) put

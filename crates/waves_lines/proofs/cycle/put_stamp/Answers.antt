@@ -9,7 +9,7 @@ pub put_number-end-requires : goal.put_number-end-requires
 put_number-end-requires c =
     let s = c.before.before in
     let a = s.args in
-    (s.requires.o, omega (arith, s.requires.v, length-append (decimal a.n) a.follows.now, length-set a.out.now a.at 35))
+    (s.requires.0, omega (arith, s.requires.1, length-append (decimal a.n) a.follows.now, length-set a.out.now a.at 35))
 
 pub put_text-requires : goal.put_text-requires
 put_text-requires c = ?

@@ -7,7 +7,7 @@ use Rattle.waves_put.proofs.Putting.{put_one, put-length}
 use Rattle.waves_put.proofs.number.put_small.Goals as goal
 
 pub bounds-out-at : goal.bounds-out-at
-bounds-out-at c = let s = c.before in omega (arith, s.requires.v, ap length (one-digit s.args.n c.if-n-lt10.true))
+bounds-out-at c = let s = c.before in omega (arith, s.requires.1, ap length (one-digit s.args.n c.if-n-lt10.true))
 
 pub returns-then-n-lt10 : goal.returns-then-n-lt10
 returns-then-n-lt10 c = let a = c.args in rw (one-digit a.n c.if-n-lt10.true) (put_one _ a.out.now a.at)
@@ -15,7 +15,7 @@ returns-then-n-lt10 c = let a = c.args in rw (one-digit a.n c.if-n-lt10.true) (p
 pub put_pair-requires : goal.put_pair-requires
 put_pair-requires c =
     let s = c.before in
-    (s.requires.o, omega (arith, s.requires.v, ap length (two_digits s.args.n c.if-n-lt10.false s.requires.o)))
+    (s.requires.0, omega (arith, s.requires.1, ap length (two_digits s.args.n c.if-n-lt10.false s.requires.0)))
 
 pub shape_of-out : goal.shape_of-out
 shape_of-out c = put-length c.put_pair.ensures
@@ -23,4 +23,4 @@ shape_of-out c = put-length c.put_pair.ensures
 pub returns : goal.returns
 returns c =
     let s = c.before.before in
-    rw (two_digits s.args.n c.if-n-lt10.false s.requires.o) c.put_pair.ensures
+    rw (two_digits s.args.n c.if-n-lt10.false s.requires.0) c.put_pair.ensures

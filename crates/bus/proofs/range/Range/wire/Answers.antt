@@ -5,8 +5,8 @@ use Rattle.bus.proofs.Ranges.{left-low, value-wire}
 use Rattle.bus.proofs.range.Range.wire.Goals as goal
 
 pub overflow_shr-result : goal.overflow_shr-result
-overflow_shr-result c = omega (arith, left-low c.args.self c.requires.o)
+overflow_shr-result c = omega (arith, left-low c.args.self c.requires.0)
 
 pub returns : goal.returns
 unfolding bit
-returns c = let at = c.before in value-wire at.args.self at.args.wires at.requires.v
+returns c = let at = c.before in value-wire at.args.self at.args.wires at.requires.1
