@@ -39,7 +39,7 @@ module _ (c : Config) (on : c.severity ≡ 0) (w : ℕ) where
 
   pub goes-steps : (f : Frame) (row next : ℕ) → row ≡ going_step_row c w f → next ≡ going_step_word c w f → Steps c w f row next
   unfolding step_row step_word
-  goes-steps f row next p q = record { row_is = rw not-fatal p; word-is = rw not-fatal q }
+  goes-steps f row next p q = record { row_is = rw not-fatal p; word_is = rw not-fatal q }
 
 -- ---- 2^63
 
@@ -136,10 +136,10 @@ module _ (c : Config) (on : c.severity ≡ 0) where
     steps-fatal f row next s =
         let none : eqb c.severity 1 ≡ false = ap (λ (y : ℕ). eqb y 1) on in
         let row_is : row ≡ going_step_row c w f = rw none at s.row_is in
-        let next-is : next ≡ going_step_word c w f = rw none at s.word-is in
+        let next_is : next ≡ going_step_word c w f = rw none at s.word_is in
         record {
           row_is = rw (ne_eqb w stopped_word other, with_row 1 c w f) row_is;
-          word-is = rw (ne_eqb w stopped_word other, with_row 1 c w f, with-word 1 c w f, ← row_is) (ap (λ (y : ℕ). cond (failing row) stopped_word y) next-is);
+          word_is = rw (ne_eqb w stopped_word other, with_row 1 c w f, with-word 1 c w f, ← row_is) (ap (λ (y : ℕ). cond (failing row) stopped_word y) next_is);
         }
 
 -- ---- a fatal checker c, and g, the same made to go on
