@@ -33,6 +33,7 @@ OTHER = {
     "oneEnd": "sought_one_end",
     "startState": "in_start_state",
     "twoEnds": "sought_two_ends",
+    "withAReference": "with_a_reference",
 }
 
 
