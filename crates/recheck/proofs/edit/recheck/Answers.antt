@@ -27,21 +27,21 @@ pub kept_before-word-requires : goal.kept_before-word-requires
 kept_before-word-requires c =
     let a = c.args in
     let is = none a.c a.trace.now a.rows.now a.words.now a.a a.b c.recheck_refusal-tested.result.refusal c.recheck_refusal-tested.result.cycle
-      (c.recheck_refusal-tested.ensures a.trace.now a.rows.now refl refl) c.if-tested-ne0.false in
+    (c.recheck_refusal-tested.ensures a.trace.now a.rows.now refl refl) c.if-tested-ne0.false in
     a-in-words a.c a.trace.now a.rows.now a.words.now a.a a.b (ok a.c a.trace.now a.rows.now a.words.now a.a a.b is)
 
 pub resume-run-requires : goal.resume-run-requires
 resume-run-requires c =
     let a = c.args in
     let is = none a.c a.trace.now a.rows.now a.words.now a.a a.b c.recheck_refusal-tested.result.refusal c.recheck_refusal-tested.result.cycle
-      (c.recheck_refusal-tested.ensures a.trace.now a.rows.now refl refl) c.if-tested-ne0.false in
+    (c.recheck_refusal-tested.ensures a.trace.now a.rows.now refl refl) c.if-tested-ne0.false in
     resumable a.c a.trace.now a.rows.now a.words.now a.a a.b (ok a.c a.trace.now a.rows.now a.words.now a.a a.b is) c.kept_before-word.result c.kept_before-word.ensures
 
 pub changes_of-requires : goal.changes_of-requires
 changes_of-requires c =
     let a = c.args in
     let is = none a.c a.trace.now a.rows.now a.words.now a.a a.b c.recheck_refusal-tested.result.refusal c.recheck_refusal-tested.result.cycle
-      (c.recheck_refusal-tested.ensures a.trace.now a.rows.now refl refl) c.if-tested-ne0.false in
+    (c.recheck_refusal-tested.ensures a.trace.now a.rows.now refl refl) c.if-tested-ne0.false in
     let ready = resumable a.c a.trace.now a.rows.now a.words.now a.a a.b (ok a.c a.trace.now a.rows.now a.words.now a.a a.b is) c.kept_before-word.result c.kept_before-word.ensures in
     counts-high a.c a.trace.now a.rows.now a.words.now a.a a.b c.kept_before-word.result ready _ _ _ _ c.resume-run.ensures
 
@@ -49,7 +49,7 @@ pub returns : goal.returns
 returns c =
     let a = c.args in
     let is = none a.c a.trace.now a.rows.now a.words.now a.a a.b c.recheck_refusal-tested.result.refusal c.recheck_refusal-tested.result.cycle
-      (c.recheck_refusal-tested.ensures a.trace.now a.rows.now refl refl) c.if-tested-ne0.false in
+    (c.recheck_refusal-tested.ensures a.trace.now a.rows.now refl refl) c.if-tested-ne0.false in
     let ready = resumable a.c a.trace.now a.rows.now a.words.now a.a a.b (ok a.c a.trace.now a.rows.now a.words.now a.a a.b is) c.kept_before-word.result c.kept_before-word.ensures in
     all_done a.c a.trace.now a.rows.now a.words.now a.a a.b _ _ c.resume-run.result.end c.resume-run.result.tally.counts c.changes_of.result is ready.low
     c.changes_of.ensures.0 c.changes_of.ensures.1 c.resume-run.ensures

@@ -7,7 +7,7 @@ use lib.Dec.{leb}
 use lib.ListN.{length, replicate, length-replicate}
 use Rattle.lengths.specs.Lengths.{check_refusal}
 use Rattle.lengths.proofs.Refusals.{check-accepted}
-use Rattle.recheck_refusals.proofs.Refusals.{refused-first, refused-range, refused-word, not-refused}
+use Rattle.recheck_refusals.proofs.Refusals.{refused-first, refused-range, refused-word, not_refused}
 use Rattle.recheck_refusals.proofs.tests.recheck_refusal.Goals as goal
 
 pub returns-then-refused-ne0 : goal.returns-then-refused-ne0
@@ -39,5 +39,5 @@ pub returns : goal.returns
 returns c = λ ts rs p q.
     let a = c.args in
     let first = c.first_impossible-spoiled in
-    not-refused a.c ts rs a.words.now a.a a.b (sym (c.lengths_refusal-refused.ensures ts rs a.words.now p q refl) ∙ c.if-refused-ne0.false)
+    not_refused a.c ts rs a.words.now a.a a.b (sym (c.lengths_refusal-refused.ensures ts rs a.words.now p q refl) ∙ c.if-refused-ne0.false)
     (rw q (c.if-not-a-b.false)) first.result first.ensures c.if-spoiled-words.false

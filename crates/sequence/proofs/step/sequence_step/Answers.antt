@@ -39,7 +39,7 @@ stepped : (k : Config) (word : ℕ) (events : Events) → (min_events ≤ k.n) �
     → row ≡ row_of (check_marks failure opened doubt)
     → (f : Frame) → Sees k f events → StepsTo sequence k word f row next
 stepped k word events fit ended ends b next row st n failure doubt opened g d o r f sees =
-    steps k word f events.seen fit.0 sees.seen_are events.unknown sees.unknown-are fit.2 ended ends b next row st n
+    steps k word f events.seen fit.0 sees.seen_are events.unknown sees.unknown_are fit.2 ended ends b next row st n
     (r ∙ rw (g, d, o) refl)
 
 -- the marks of attempts that end, with mark 4 where one starts

@@ -13,7 +13,7 @@ use Rattle.trace.proofs.Watching.{settled-watched, ran-watched, watch-ready, fil
 use Rattle.sequence_fatal.proofs.fill.fill.Goals as goal
 
 pub kept_at_end-last-requires : goal.kept_at_end-last-requires
-kept_at_end-last-requires c = (c.requires.0.low, c.requires.0.words-hold)
+kept_at_end-last-requires c = (c.requires.0.low, c.requires.0.words_hold)
 
 pub loop-at-init : goal.loop-at-init
 loop-at-init c =
@@ -21,7 +21,7 @@ loop-at-init c =
     (filling-none (fatally s.args.c) s.args.trace.now s.args.rows.now s.args.words.now (settled s.args.s false) (settled-runnable false s.requires.0) refl, s.requires.2)
 
 pub overflow_add-from : goal.overflow_add-from
-overflow_add-from c = omega (arith, c.requires.0.in-trace, c.requires.0.short)
+overflow_add-from c = omega (arith, c.requires.0.in_trace, c.requires.0.short)
 
 pub events_at-requires : goal.events_at-requires
 events_at-requires c =
@@ -30,7 +30,7 @@ events_at-requires c =
     let done =
     watch-ready s.args.c s.requires.1.1 s.args.trace.now s.args.rows.now s.args.words.now (settled s.args.s false) (settled-runnable false s.requires.0) at.rows at.words
     at.at at.word (kept_from s.args.words.now s.args.s.at s.args.s.kept at.at) at.invariant.0 at.invariant.1 in
-    (done.0, s.requires.1.0, (omega (arith, c.requires.0.in-trace)))
+    (done.0, s.requires.1.0, (omega (arith, c.requires.0.in_trace)))
 
 pub events_cycle-next-requires : goal.events_cycle-next-requires
 events_cycle-next-requires c =
@@ -42,28 +42,28 @@ events_cycle-next-requires c =
     (done.0, s.requires.1, done.1)
 
 pub offset_bounds-rows-at : goal.offset_bounds-rows-at
-offset_bounds-rows-at c = omega (arith, c.requires.0.in-trace, c.requires.0.short)
+offset_bounds-rows-at c = omega (arith, c.requires.0.in_trace, c.requires.0.short)
 
 pub bounds-rows-at : goal.bounds-rows-at
 bounds-rows-at c =
-    omega (arith, c.loop-at-test.true, c.loop-at.invariant.0.rows_are.same_length, c.requires.0.rows-hold)
+    omega (arith, c.loop-at-test.true, c.loop-at.invariant.0.rows_are.same_length, c.requires.0.rows_hold)
 
 pub offset_bounds-words-at : goal.offset_bounds-words-at
-offset_bounds-words-at c = omega (arith, c.requires.0.in-trace, c.requires.0.short)
+offset_bounds-words-at c = omega (arith, c.requires.0.in_trace, c.requires.0.short)
 
 pub bounds-words-at : goal.bounds-words-at
 bounds-words-at c =
-    omega (arith, c.loop-at-test.true, c.loop-at.invariant.0.words_are.same_length, c.requires.0.words-hold)
+    omega (arith, c.loop-at-test.true, c.loop-at.invariant.0.words_are.same_length, c.requires.0.words_hold)
 
 pub offset_bounds-words-at-then-fails : goal.offset_bounds-words-at-then-fails
-offset_bounds-words-at-then-fails c = omega (arith, c.requires.0.in-trace, c.requires.0.short)
+offset_bounds-words-at-then-fails c = omega (arith, c.requires.0.in_trace, c.requires.0.short)
 
 pub bounds-words-at-then-fails : goal.bounds-words-at-then-fails
 bounds-words-at-then-fails c =
-    omega (arith, c.loop-at-test.true, c.loop-at.invariant.0.words_are.same_length, c.requires.0.words-hold)
+    omega (arith, c.loop-at-test.true, c.loop-at.invariant.0.words_are.same_length, c.requires.0.words_hold)
 
 pub overflow_add-behind : goal.overflow_add-behind
-overflow_add-behind c = omega (arith, c.requires.0.in-trace, c.requires.0.short)
+overflow_add-behind c = omega (arith, c.requires.0.in_trace, c.requires.0.short)
 
 pub returns-then-fails : goal.returns-then-fails
 returns-then-fails c =
@@ -83,14 +83,14 @@ pub shape_of-words-then-fails : goal.shape_of-words-then-fails
 shape_of-words-then-fails c = (returns-then-fails c).come.words_are.same_length
 
 pub offset_bounds-words-at-in-loop-at : goal.offset_bounds-words-at-in-loop-at
-offset_bounds-words-at-in-loop-at c = omega (arith, c.requires.0.in-trace, c.requires.0.short)
+offset_bounds-words-at-in-loop-at c = omega (arith, c.requires.0.in_trace, c.requires.0.short)
 
 pub bounds-words-at-in-loop-at : goal.bounds-words-at-in-loop-at
 bounds-words-at-in-loop-at c =
-    omega (arith, c.loop-at-test.true, c.loop-at.invariant.0.words_are.same_length, c.requires.0.words-hold)
+    omega (arith, c.loop-at-test.true, c.loop-at.invariant.0.words_are.same_length, c.requires.0.words_hold)
 
 pub overflow_add-at : goal.overflow_add-at
-overflow_add-at c = omega (arith, c.requires.0.in-trace, c.requires.0.short)
+overflow_add-at c = omega (arith, c.requires.0.in_trace, c.requires.0.short)
 
 pub loop-at-smaller : goal.loop-at-smaller
 loop-at-smaller c = omega (arith, c.loop-at-test.true)

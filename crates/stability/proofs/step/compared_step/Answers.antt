@@ -32,7 +32,7 @@ returns-then-last c = λ f on tracks.
     let l = left a.c a.word parts held in
     compared-steps a.c a.word f k.low (left_in a.word - 1) false (no-trigger _ _ _ some) (open-window _ _ _ some)
     (left-of _ _ _ some (left_in a.word)) (le-leb (2 ^ 48) a.word held) (tested a.c a.word parts held) c.window_row-row.result 0
-    (compared-row a.c a.word f held l a.enable a.t.known a.t.value c.window_row-row.result on tracks.known_is tracks.value-is c.window_row-row.ensures)
+    (compared-row a.c a.word f held l a.enable a.t.known a.t.value c.window_row-row.result on tracks.known_is tracks.value_is c.window_row-row.ensures)
     (rw (sym (last-left _ l) ∙ eq-eqb (a.word % 65536) 1 c.if-last.true) refl)
 
 pub returns-else-last : goal.returns-else-last
@@ -45,5 +45,5 @@ returns-else-last c = λ f on tracks.
     let l = left a.c a.word parts held in
     compared-steps a.c a.word f k.low (left_in a.word - 1) false (no-trigger _ _ _ some) (open-window _ _ _ some)
     (left-of _ _ _ some (left_in a.word)) (le-leb (2 ^ 48) a.word held) (tested a.c a.word parts held) c.window_row-row.result (a.word - 1)
-    (compared-row a.c a.word f held l a.enable a.t.known a.t.value c.window_row-row.result on tracks.known_is tracks.value-is c.window_row-row.ensures)
+    (compared-row a.c a.word f held l a.enable a.t.known a.t.value c.window_row-row.result on tracks.known_is tracks.value_is c.window_row-row.ensures)
     (rw (sym (last-left _ l) ∙ ne_eqb (a.word % 65536) 1 c.if-last.false) (word-before a.word held l))

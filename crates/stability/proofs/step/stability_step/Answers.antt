@@ -61,4 +61,4 @@ returns c = λ f o on tracks.
     (c.first_word.ensures
     ∙ ap (λ (x : ℕ). cond (eqb c.if-opened.left 0) 0 (c.if-opened.left + x))
     (ap₂ (λ (t k : Bool). cond (t && k) (with_reference a.t.value) 0) tested tracks.known_is
-    ∙ reference-known (enabled f && leb c.if-opened.left (a.c.n - a.c.min)) (known_p a.c f) a.t.value (P a.c f) tracks.value-is))
+    ∙ reference-known (enabled f && leb c.if-opened.left (a.c.n - a.c.min)) (known_p a.c f) a.t.value (P a.c f) tracks.value_is))

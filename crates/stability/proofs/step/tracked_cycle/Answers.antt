@@ -33,7 +33,7 @@ steps k word seen goes f r opened sees to =
     let u = running k word seen f opened sees in
     let some = is_true (not (eqb word 0) || seen.trigger) (and_right seen.up (not (eqb word 0) || seen.trigger) (of-true opened)) in
     steps_of k word f goes.1 stability r.row r.word u goes.0
-    (to (seen-opens k word f seen.trigger (sees.trigger-is u) some) (sees.enabled-is u))
+    (to (seen-opens k word f seen.trigger (sees.trigger_is u) some) (sees.enabled_is u))
 
 pub returns-then-not-is_open : goal.returns-then-not-is_open
 unfolding is_open_at
@@ -44,7 +44,7 @@ returns-then-not-is_open c = λ f sees _.
     ⊎_elim
     (λ (u : up f ≡ true).
     steps_of a.c a.word f s.requires.1.1 stability 0 0 u s.requires.1.0
-    (idle-seen a.c a.word f a.seen.trigger (sees.trigger-is u) (idle a.seen.up (sees.up_is ∙ u) none)))
+    (idle-seen a.c a.word f a.seen.trigger (sees.trigger_is u) (idle a.seen.up (sees.up_is ∙ u) none)))
     (λ (d : up f ≡ false). steps-in-reset a.c a.word f s.requires.1.1 d) (either (up f))
   where
     idle : (b : Bool) {x : Bool} → b ≡ true → (b && x) ≡ false → x ≡ false
@@ -59,7 +59,7 @@ returns-then-t c = λ f sees tracks.
     let opened = sym c.is_open.ensures ∙ c.if-not-is_open.false in
     let k = tracks opened in
     steps c.args.c c.args.word c.args.seen c.requires.1 f c.stability_step.result opened sees
-    (λ o on. c.stability_step.ensures f o on (record { known_is = sym c.if-t.true ∙ k.known_is; value-is = k.value-is }))
+    (λ o on. c.stability_step.ensures f o on (record { known_is = sym c.if-t.true ∙ k.known_is; value_is = k.value_is }))
 
 pub stability_step-requires-2 : goal.stability_step-requires-2
 stability_step-requires-2 c = (c.requires.0, c.requires.1.0, goes-possible c.args.c c.requires.1.1 c.args.word c.requires.2)

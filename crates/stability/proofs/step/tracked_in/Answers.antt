@@ -19,7 +19,7 @@ returns-then-unknown-eq0 c = λ _.
     let a = v.args in
     record {
       known_is = none-known a.c.p (unknown a.frame 1) c.if-unknown-eq0.true;
-      value-is = λ e. v.masked_value-value.ensures ∙ read_known a.c.p (frame_word a.frame 1) (unknown a.frame 1) e;
+      value_is = λ e. v.masked_value-value.ensures ∙ read_known a.c.p (frame_word a.frame 1) (unknown a.frame 1) e;
     }
 
 pub has_one-requires : goal.has_one-requires
@@ -31,5 +31,5 @@ returns c = λ _.
     let a = v.args in
     record {
       known_is = known_is a.c.p (unknown a.frame 1) c.has_one.result c.has_one.ensures;
-      value-is = λ e. v.masked_value-value.ensures ∙ read_known a.c.p (frame_word a.frame 1) (unknown a.frame 1) e;
+      value_is = λ e. v.masked_value-value.ensures ∙ read_known a.c.p (frame_word a.frame 1) (unknown a.frame 1) e;
     }

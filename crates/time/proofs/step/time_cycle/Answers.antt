@@ -1,6 +1,5 @@
 -- `time::step::time_cycle` meets its contract. Assumes nothing.
 use mathlib.Core.Path.{sym, ◌∙◌}
-use borrow.Author.Tests.{not-true, not-false}
 use Rattle.rules.specs.Config.Family.{time}
 use Rattle.cycle.proofs.Outcomes.{steps-in-reset, steps_of}
 use Rattle.time.proofs.step.time_cycle.Goals as goal

@@ -11,7 +11,7 @@ use Rattle.trace.proofs.Running.{settled, settled-runnable, settled-ran, filling
 use Rattle.time_runs.proofs.fill.fill_time.Goals as goal
 
 pub kept_at_end-last-requires : goal.kept_at_end-last-requires
-kept_at_end-last-requires c = (c.requires.0.low, c.requires.0.words-hold)
+kept_at_end-last-requires c = (c.requires.0.low, c.requires.0.words_hold)
 
 pub loop-at-init : goal.loop-at-init
 loop-at-init c =
@@ -19,28 +19,28 @@ loop-at-init c =
     filling-none s.args.c s.args.trace.now s.args.rows.now s.args.words.now (settled s.args.s false) (settled-runnable false s.requires.0) refl
 
 pub overflow_add-from : goal.overflow_add-from
-overflow_add-from c = omega (arith, c.requires.0.in-trace, c.requires.0.short)
+overflow_add-from c = omega (arith, c.requires.0.in_trace, c.requires.0.short)
 
 pub frame_at-requires : goal.frame_at-requires
-frame_at-requires c = (omega (arith, c.requires.0.in-trace))
+frame_at-requires c = (omega (arith, c.requires.0.in_trace))
 
 pub time_cycle-next-requires : goal.time_cycle-next-requires
-time_cycle-next-requires c = (c.requires.0.good, c.requires.1, c.loop-at.invariant.possible-word)
+time_cycle-next-requires c = (c.requires.0.good, c.requires.1, c.loop-at.invariant.possible_word)
 
 pub offset_bounds-rows-at : goal.offset_bounds-rows-at
-offset_bounds-rows-at c = omega (arith, c.requires.0.in-trace, c.requires.0.short)
+offset_bounds-rows-at c = omega (arith, c.requires.0.in_trace, c.requires.0.short)
 
 pub bounds-rows-at : goal.bounds-rows-at
-bounds-rows-at c = omega (arith, c.loop-at.invariant.rows_are.same_length, c.requires.0.rows-hold)
+bounds-rows-at c = omega (arith, c.loop-at.invariant.rows_are.same_length, c.requires.0.rows_hold)
 
 pub offset_bounds-words-at : goal.offset_bounds-words-at
-offset_bounds-words-at c = omega (arith, c.requires.0.in-trace, c.requires.0.short)
+offset_bounds-words-at c = omega (arith, c.requires.0.in_trace, c.requires.0.short)
 
 pub bounds-words-at : goal.bounds-words-at
-bounds-words-at c = omega (arith, c.loop-at.invariant.words_are.same_length, c.requires.0.words-hold)
+bounds-words-at c = omega (arith, c.loop-at.invariant.words_are.same_length, c.requires.0.words_hold)
 
 pub overflow_add-at : goal.overflow_add-at
-overflow_add-at c = omega (arith, c.requires.0.in-trace, c.requires.0.short)
+overflow_add-at c = omega (arith, c.requires.0.in_trace, c.requires.0.short)
 
 pub loop-at-preserved : goal.loop-at-preserved
 loop-at-preserved c =

@@ -12,7 +12,7 @@ returns-then-p_unknown-q_unknown-eq0 c =
     let two = none_left (bit_or (unknown a.frame 1) (unknown a.frame 2)) (unknown a.frame 3) c.if-p_unknown-q_unknown-eq0.true in
     record {
       test_known = none-known a.c.p (unknown a.frame 1) (none_left (unknown a.frame 1) (unknown a.frame 2) two);
-      start-known = none-known a.c.q (unknown a.frame 2) (none_right (unknown a.frame 1) (unknown a.frame 2) two);
+      start_known = none-known a.c.q (unknown a.frame 2) (none_right (unknown a.frame 1) (unknown a.frame 2) two);
       next_known = none-known a.c.r (unknown a.frame 3) (none_right (bit_or (unknown a.frame 1) (unknown a.frame 2)) (unknown a.frame 3) c.if-p_unknown-q_unknown-eq0.true);
     }
 
@@ -30,6 +30,6 @@ returns c =
     let a = c.args in
     record {
       test_known = known_is a.c.p (unknown a.frame 1) c.has_one.result c.has_one.ensures;
-      start-known = known_is a.c.q (unknown a.frame 2) c.has_one-2.result c.has_one-2.ensures;
+      start_known = known_is a.c.q (unknown a.frame 2) c.has_one-2.result c.has_one-2.ensures;
       next_known = known_is a.c.r (unknown a.frame 3) c.has_one-3.result c.has_one-3.ensures;
     }

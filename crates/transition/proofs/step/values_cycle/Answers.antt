@@ -1,13 +1,9 @@
 -- `transition::step::values_cycle` meets its contract. Assumes nothing.
 use mathlib.Core.Path.{sym, ◌∙◌}
 use borrow.Author.Tests.{not-true, not-false}
-use Rattle.rules.specs.declared.frame.Frame.{Frame}
 use Rattle.rules.specs.Config.Family.{transition}
-use Rattle.rules.specs.Step.{StepsTo, Steps}
 use Rattle.rules.proofs.Severity.{goes-possible}
-use Rattle.cycle.specs.declared.outcome.Outcome.{Outcome}
 use Rattle.cycle.proofs.Outcomes.{steps-in-reset, steps_of}
-use Rattle.transition.specs.Ports.{Holds}
 use Rattle.transition.proofs.TransitionCode.{all_tell}
 use Rattle.transition.proofs.step.values_cycle.Goals as goal
 

@@ -32,37 +32,37 @@ returns-then-word-kept c =
     (record { come = at.invariant; stopped = λ _. (refl, c.if-word-kept.true) })
 
 pub overflow_add-from : goal.overflow_add-from
-overflow_add-from c = omega (arith, c.requires.0.in-trace, c.requires.0.short)
+overflow_add-from c = omega (arith, c.requires.0.in_trace, c.requires.0.short)
 
 pub frame_at-requires : goal.frame_at-requires
-frame_at-requires c = (omega (arith, c.requires.0.in-trace))
+frame_at-requires c = (omega (arith, c.requires.0.in_trace))
 
 pub value_cycle-next-requires : goal.value_cycle-next-requires
-value_cycle-next-requires c = (c.requires.0.good, c.requires.1, c.loop-at.invariant.possible-word, c.expected_wires-e.ensures)
+value_cycle-next-requires c = (c.requires.0.good, c.requires.1, c.loop-at.invariant.possible_word, c.expected_wires-e.ensures)
 
 pub offset_bounds-words-at : goal.offset_bounds-words-at
-offset_bounds-words-at c = omega (arith, c.requires.0.in-trace, c.requires.0.short)
+offset_bounds-words-at c = omega (arith, c.requires.0.in_trace, c.requires.0.short)
 
 pub bounds-words-at : goal.bounds-words-at
 bounds-words-at c =
-    omega (arith, c.loop-at-test.true, c.loop-at.invariant.words_are.same_length, c.requires.0.words-hold)
+    omega (arith, c.loop-at-test.true, c.loop-at.invariant.words_are.same_length, c.requires.0.words_hold)
 
 pub offset_bounds-rows-at : goal.offset_bounds-rows-at
-offset_bounds-rows-at c = omega (arith, c.requires.0.in-trace, c.requires.0.short)
+offset_bounds-rows-at c = omega (arith, c.requires.0.in_trace, c.requires.0.short)
 
 pub bounds-rows-at : goal.bounds-rows-at
 bounds-rows-at c =
-    omega (arith, c.loop-at-test.true, c.loop-at.invariant.rows_are.same_length, c.requires.0.rows-hold)
+    omega (arith, c.loop-at-test.true, c.loop-at.invariant.rows_are.same_length, c.requires.0.rows_hold)
 
 pub offset_bounds-words-at-in-loop-at : goal.offset_bounds-words-at-in-loop-at
-offset_bounds-words-at-in-loop-at c = omega (arith, c.requires.0.in-trace, c.requires.0.short)
+offset_bounds-words-at-in-loop-at c = omega (arith, c.requires.0.in_trace, c.requires.0.short)
 
 pub bounds-words-at-in-loop-at : goal.bounds-words-at-in-loop-at
 bounds-words-at-in-loop-at c =
-    omega (arith, c.loop-at-test.true, c.loop-at.invariant.words_are.same_length, c.requires.0.words-hold)
+    omega (arith, c.loop-at-test.true, c.loop-at.invariant.words_are.same_length, c.requires.0.words_hold)
 
 pub overflow_add-at : goal.overflow_add-at
-overflow_add-at c = omega (arith, c.requires.0.in-trace, c.requires.0.short)
+overflow_add-at c = omega (arith, c.requires.0.in_trace, c.requires.0.short)
 
 pub loop-at-smaller : goal.loop-at-smaller
 loop-at-smaller c = omega (arith, c.loop-at-test.true)
