@@ -1,10 +1,6 @@
 -- `edit_samples::refusal::edit_refusal` meets its contract: the tests come in the order of the refusal numbers. Assumes nothing.
-use Prim.Native.Nat.{ℕ}
-use mathlib.Core.Path.{◌≡◌, refl, sym, ◌∙◌}
+use mathlib.Core.Path.{refl, sym, ◌∙◌}
 use mathlib.Core.Bool.{true, false}
-use mathlib.Core.List.{List}
-use lib.ListN.{length}
-use Rattle.lengths.specs.Lengths.{check_refusal}
 use Rattle.edit_samples.proofs.Refusals.{refused-first, rest-decides}
 use Rattle.edit_samples.proofs.refusal.edit_refusal.Goals as goal
 

@@ -1,11 +1,9 @@
 -- `recheck_refusals::tests::recheck_refusal` meets its contract: the tests come in the order of the refusal numbers. Assumes nothing.
 use Prim.Native.Nat.{ℕ}
-use mathlib.Core.Path.{◌≡◌, refl, sym, ◌∙◌}
-use mathlib.Core.Bool.{true, ◌&&◌}
+use mathlib.Core.Path.{refl, sym, ◌∙◌}
+use mathlib.Core.Bool.{true}
 use mathlib.Core.List.{List}
-use lib.Dec.{leb}
-use lib.ListN.{length, replicate, length-replicate}
-use Rattle.lengths.specs.Lengths.{check_refusal}
+use lib.ListN.{replicate, length-replicate}
 use Rattle.lengths.proofs.Refusals.{check-accepted}
 use Rattle.recheck_refusals.proofs.Refusals.{refused-first, refused-range, refused-word, not_refused}
 use Rattle.recheck_refusals.proofs.tests.recheck_refusal.Goals as goal

@@ -1,12 +1,10 @@
 -- `resume::run::resume` meets its contract. The loop's invariant is `Going`: the run from a has come to cycle t with no cycle from b on where it could
 -- stop. A block that is entered where the run does not stop comes further, so the measure, what is left of the record, falls. Assumes nothing.
-use Prim.Native.Nat.{ℕ, ◌-◌, ◌≤◌, ◌<◌}
-use mathlib.Core.Path.{◌≡◌, subst}
+use Prim.Native.Nat.{◌-◌, ◌≤◌}
 use mathlib.Core.Logic.{⊎_elim}
 use native.Mathlib.Omega.{arith}
 use lib.ListN.{length}
 use Rattle.bits.proofs.Tests.{bound-true, bound-rest, bound-false}
-use Rattle.trace.specs.Traces.{frames}
 use Rattle.resume.proofs.Going.{going-none, runnable, further, moved-low, moved-high, going_more, going_done}
 use Rattle.resume.proofs.run.resume.Goals as goal
 

@@ -1,18 +1,15 @@
 -- `stability::step::compared_step` meets its contract: a window with a reference is tested to its end. Assumes nothing.
 use Prim.Native.Nat.{ℕ, ◌-◌, ◌%◌, ◌^◌, ◌<◌, ◌≤◌}
 use mathlib.Core.Path.{◌≡◌, refl, sym, ◌∙◌}
-use mathlib.Core.Bool.{true, false, not, ◌&&◌}
+use mathlib.Core.Bool.{true, false}
 use native.Mathlib.Omega.{arith}
-use lib.Dec.{eqb, leb}
+use lib.Dec.{leb}
 use borrow.Author.Tests.{le-leb, eq-eqb, ne_eqb}
 use Rattle.rules.specs.declared.config.Config.{Config}
-use Rattle.rules.specs.Frame.{enabled, P, known_p}
-use Rattle.rules.specs.Rules.{row_of, window_marks}
-use Rattle.rules.specs.Step.{left_in, reference_in}
+use Rattle.rules.specs.Step.{left_in}
 use Rattle.rules.proofs.Good.{stability-config}
 use Rattle.rules.proofs.TriggerWords.{WordParts, word-parts}
 use Rattle.trigger.proofs.TriggerCode.{compared-steps, compared-row, last-left, word-before, no-trigger, open-window, left-of}
-use Rattle.stability.specs.Tracked.{Tracks}
 use Rattle.stability.proofs.step.compared_step.Goals as goal
 
 -- what is known of the configuration and the word

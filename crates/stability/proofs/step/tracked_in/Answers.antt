@@ -1,6 +1,5 @@
 -- `stability::step::tracked_in` meets its contract: where no wire is unknown, the port is known, and a port that is known reads as its wires do. Assumes nothing.
 use mathlib.Core.Path.{sym, ◌∙◌}
-use borrow.Author.Tests.{not-true}
 use Rattle.bits.proofs.Tests.{of-true, of-false}
 use Rattle.bus.proofs.Known.{none-known, known_is, read_known}
 use Rattle.rules.specs.Frame.{frame_word, unknown}

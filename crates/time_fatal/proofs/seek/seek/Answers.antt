@@ -1,13 +1,11 @@
 -- `time_fatal::seek::seek` meets its contract. The loop's invariant is `Running`, of the checker made fatal, with a word that is not 2^63. The measure is what is
 -- left of the stretch. Assumes nothing.
-use Prim.Native.Nat.{◌+◌, ◌-◌, ◌<◌}
+use Prim.Native.Nat.{◌-◌}
 use mathlib.Core.Path.{refl, sym, ◌∙◌}
 use mathlib.Core.Bool.{true}
 use native.Mathlib.Numerals.{add-one}
 use native.Mathlib.Omega.{arith}
 use Rattle.rules.specs.Config.{fatally}
-use Rattle.trace.specs.Traces.{frames}
-use Rattle.trace.specs.Stretches.{Runnable}
 use Rattle.trace.proofs.Running.{settled, settled-runnable, running_none}
 use Rattle.trace.proofs.Watching.{settled-watched, watch-ready, watch-fails, watch-goes-on}
 use Rattle.time_fatal.proofs.seek.seek.Goals as goal

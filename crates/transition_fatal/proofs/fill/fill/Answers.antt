@@ -1,13 +1,12 @@
 -- `transition_fatal::fill::fill` meets its contract. The loop's invariant is `Running`, of the checker made fatal, with a word that is not 2^63. The measure is what is left of
 -- the stretch. Assumes nothing.
-use Prim.Native.Nat.{◌+◌, ◌-◌, ◌<◌}
+use Prim.Native.Nat.{◌-◌}
 use mathlib.Core.Path.{◌≡◌, refl, sym, ◌∙◌}
 use mathlib.Core.Bool.{false}
 use native.Mathlib.Numerals.{add-one}
 use native.Mathlib.Omega.{arith}
 use Rattle.rules.specs.Config.{fatally}
-use Rattle.trace.specs.Traces.{frames}
-use Rattle.trace.specs.Stretches.{Runnable, kept_from}
+use Rattle.trace.specs.Stretches.{kept_from}
 use Rattle.trace.proofs.Running.{settled, settled-runnable, filling-none, filled}
 use Rattle.trace.proofs.Watching.{settled-watched, ran-watched, watch-ready, fill_fails, fill-goes-on}
 use Rattle.transition_fatal.proofs.fill.fill.Goals as goal

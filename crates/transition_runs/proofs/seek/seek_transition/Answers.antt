@@ -1,12 +1,10 @@
 -- `transition_runs::seek::seek_transition` meets its contract. The loop's invariant is `Running`: the run has come to an entry with no earlier one where it had to stop. The
 -- measure is what is left of the stretch. Assumes nothing.
-use Prim.Native.Nat.{◌+◌, ◌-◌, ◌<◌}
+use Prim.Native.Nat.{◌-◌}
 use mathlib.Core.Path.{refl}
 use mathlib.Core.Bool.{true}
 use native.Mathlib.Numerals.{add-one}
 use native.Mathlib.Omega.{arith}
-use Rattle.trace.specs.Traces.{frames}
-use Rattle.trace.specs.Stretches.{Runnable}
 use Rattle.trace.proofs.Running.{settled, settled-runnable, settled-ran, running_none, running_more}
 use Rattle.transition_runs.proofs.seek.seek_transition.Goals as goal
 

@@ -1,6 +1,5 @@
 -- `value::step::value_cycle` meets its contract. Assumes nothing.
 use mathlib.Core.Path.{sym, ◌∙◌}
-use borrow.Author.Tests.{not-true, not-false}
 use Rattle.rules.specs.Config.Family.{value}
 use Rattle.cycle.proofs.Outcomes.{steps-in-reset, steps_of}
 use Rattle.value.proofs.step.value_cycle.Goals as goal

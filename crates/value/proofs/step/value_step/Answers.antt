@@ -3,7 +3,6 @@ use Prim.Native.Nat.{◌<◌}
 use mathlib.Core.Path.{sym, ◌∙◌}
 use mathlib.Core.Bool.{true, false}
 use native.Mathlib.Omega.{arith}
-use borrow.Author.Tests.{not-true, not-false}
 use Rattle.rules.proofs.Good.{q-within, value-config}
 use Rattle.trigger.proofs.TriggerCode.{value-steps, idle-value, opened-trigger, opened-window, opened-left, no-trigger, open-window, left-of}
 use Rattle.value.proofs.step.value_step.Goals as goal

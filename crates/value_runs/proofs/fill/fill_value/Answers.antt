@@ -1,12 +1,10 @@
 -- `value_runs::fill::fill_value` meets its contract. The loop's invariant is `Filling`: the run has come to an entry and has stored those before it. The measure is
 -- what is left of the stretch. Assumes nothing.
-use Prim.Native.Nat.{◌+◌, ◌-◌, ◌<◌}
+use Prim.Native.Nat.{◌-◌}
 use mathlib.Core.Path.{◌≡◌, refl}
 use mathlib.Core.Bool.{false}
 use native.Mathlib.Numerals.{add-one}
 use native.Mathlib.Omega.{arith}
-use Rattle.trace.specs.Traces.{frames}
-use Rattle.trace.specs.Stretches.{Runnable}
 use Rattle.trace.proofs.Running.{settled, settled-runnable, settled-ran, filling-none, filling-more, filled}
 use Rattle.value_runs.proofs.fill.fill_value.Goals as goal
 
