@@ -19,7 +19,7 @@ loop-i-preserved c =
     let at = c.loop-i in
     let a = c.args in
     let away = c.wrapping_sub_u64-bits in
-    let one = difference-zero (get_or a.words.now (a.from + at.i) 0) away.result (omega (arith, away.type-inv)) away.ensures in
+    let one = difference-zero (get_or a.words.now (a.from + at.i) 0) away.result (omega (arith, away.type_inv)) away.ensures.value in
     (omega arith, rw (add-one at.i, or-zero at.bits away.result, at.invariant.1, one))
 
 pub returns : goal.returns
