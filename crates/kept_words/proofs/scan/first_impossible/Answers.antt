@@ -17,23 +17,26 @@ first_in_block-reached-requires c = (
 )
 
 pub overflow_add-t : goal.overflow_add-t
-overflow_add-t c = ?
+overflow_add-t c =
+    elim c.if-n-t-lt-BLOCK.branch [ then-n-t-lt-BLOCK w ↦ omega arith | else-n-t-lt-BLOCK w ↦ omega arith ]
 
 pub returns-then-reached-t : goal.returns-then-reached-t
 returns-then-reached-t c =
     let a = c.args in
-    first-in a.c a.words.now 0 (length a.words.now) c.loop-t.invariant ? c.first_in_block-reached.ensures c.if-reached-t.true
+    first-in a.c a.words.now 0 (length a.words.now) c.loop-t.invariant (elim c.if-n-t-lt-BLOCK.branch [ then-n-t-lt-BLOCK w ↦ omega arith | else-n-t-lt-BLOCK w ↦ omega arith ]) c.first_in_block-reached.ensures c.if-reached-t.true
 
 pub overflow_add-t-in-loop-t : goal.overflow_add-t-in-loop-t
-overflow_add-t-in-loop-t c = ?
+overflow_add-t-in-loop-t c =
+    elim c.if-n-t-lt-BLOCK.branch [ then-n-t-lt-BLOCK w ↦ omega arith | else-n-t-lt-BLOCK w ↦ omega arith ]
 
 pub loop-t-smaller : goal.loop-t-smaller
-loop-t-smaller c = ?
+loop-t-smaller c =
+    elim c.if-n-t-lt-BLOCK.branch [ then-n-t-lt-BLOCK w ↦ omega arith | else-n-t-lt-BLOCK w ↦ omega arith ]
 
 pub loop-t-preserved : goal.loop-t-preserved
 loop-t-preserved c =
     let a = c.args in
-    passed-block a.c a.words.now 0 (length a.words.now) c.loop-t.invariant ? c.first_in_block-reached.ensures c.if-reached-t.false
+    passed-block a.c a.words.now 0 (length a.words.now) c.loop-t.invariant (elim c.if-n-t-lt-BLOCK.branch [ then-n-t-lt-BLOCK w ↦ omega arith | else-n-t-lt-BLOCK w ↦ omega arith ]) c.first_in_block-reached.ensures c.if-reached-t.false
 
 pub returns : goal.returns
 returns c =
