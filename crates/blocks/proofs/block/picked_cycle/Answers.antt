@@ -14,8 +14,9 @@ returns c =
       t-is = refl;
       word-is =
           elim c.if-k-eq0.branch [
-            then-k-eq0 w ↦ w.before-is ∙ word_first a.word a.words.now k w.if-k-eq0.true
-          | else-k-eq0 w ↦ w.before-is ∙ word-later a.word a.words.now k w.if-k-eq0.false ];
+            | then-k-eq0 w ↦ w.before-is ∙ word_first a.word a.words.now k w.if-k-eq0.true
+            | else-k-eq0 w ↦ w.before-is ∙ word-later a.word a.words.now k w.if-k-eq0.false
+          ];
       frame_is = c.frame_at-frame.ensures;
       row_is = refl;
     }

@@ -16,6 +16,7 @@ pub returns : goal.returns
 unfolding value_fits
 returns c =
     let a = c.args.c in
-    elim c.if-c-eq7.branch
-    [ then-c-eq7 w ↦ rw (w.most-is, w.low_ones-most.ensures, w.width.ensures, eq-eqb a.kind 7 w.if-c-eq7.true) (le-ones-lt (width a.p) a.value)
-    | else-c-eq7 w ↦ rw (w.most-is, ne_eqb a.kind 7 w.if-c-eq7.false) (at-most-0 a.value) ]
+    elim c.if-c-eq7.branch [
+      | then-c-eq7 w ↦ rw (w.most-is, w.low_ones-most.ensures, w.width.ensures, eq-eqb a.kind 7 w.if-c-eq7.true) (le-ones-lt (width a.p) a.value)
+      | else-c-eq7 w ↦ rw (w.most-is, ne_eqb a.kind 7 w.if-c-eq7.false) (at-most-0 a.value)
+    ]

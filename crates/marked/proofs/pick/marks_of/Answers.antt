@@ -35,9 +35,11 @@ overflow_add-marks c =
     let a = c.args in
     let i = at.i in
     let h : suc i ≤ 32 = omega arith in
-    record { fits =
-        subst⁻¹ (λ (x : ℕ). x < 2 ^ 32) (more a.rows.now a.first i at.marks (omega arith) at.invariant.1 c.if-rows-first-ne0.true)
-        (lt_of_lt_of_le (number_lt (suc i) (row_of a.rows.now a.first)) (pow_mono h)) }
+    record {
+      fits =
+          subst⁻¹ (λ (x : ℕ). x < 2 ^ 32) (more a.rows.now a.first i at.marks (omega arith) at.invariant.1 c.if-rows-first-ne0.true)
+          (lt_of_lt_of_le (number_lt (suc i) (row_of a.rows.now a.first)) (pow_mono h));
+    }
 
 pub loop-i-preserved : goal.loop-i-preserved
 loop-i-preserved c =
@@ -46,10 +48,11 @@ loop-i-preserved c =
       omega arith,
       rw (add-one at.i)
           (elim c.if-rows-first-ne0.branch [
-            then-rows-first-ne0 w ↦ w.marks-is ∙ more a.rows.now a.first at.i at.marks (omega arith) at.invariant.1 w.if-rows-first-ne0.true
-          | else-rows-first-ne0 w ↦
-              w.marks-is
-              ∙ marks-same (row_of a.rows.now a.first) at.i at.marks at.invariant.1 (marked-false a.rows.now (a.first + (31 - at.i)) w.if-rows-first-ne0.false) ]),
+            | then-rows-first-ne0 w ↦ w.marks-is ∙ more a.rows.now a.first at.i at.marks (omega arith) at.invariant.1 w.if-rows-first-ne0.true
+            | else-rows-first-ne0 w ↦
+                w.marks-is
+                ∙ marks-same (row_of a.rows.now a.first) at.i at.marks at.invariant.1 (marked-false a.rows.now (a.first + (31 - at.i)) w.if-rows-first-ne0.false)
+          ]),
     )
 
 pub returns : goal.returns

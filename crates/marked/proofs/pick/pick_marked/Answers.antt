@@ -30,17 +30,19 @@ marks_of-requires c =
 pub overflow_sub-marks : goal.overflow_sub-marks
 overflow_sub-marks c =
     let h : Width c.loop-first.first c.args.cycles c.if-left-lt32.width =
-        elim c.if-left-lt32.branch [
-          then-left-lt32 w ↦ width-short _ _ _ c.loop-first-test.true w.if-left-lt32.true w.width-is
-        | else-left-lt32 w ↦ width-long _ _ _ c.loop-first-test.true w.if-left-lt32.false w.width-is ] in
+    elim c.if-left-lt32.branch [
+      | then-left-lt32 w ↦ width-short _ _ _ c.loop-first-test.true w.if-left-lt32.true w.width-is
+      | else-left-lt32 w ↦ width-long _ _ _ c.loop-first-test.true w.if-left-lt32.false w.width-is
+    ] in
     omega (arith, h.1)
 
 pub overflow_shr-marks : goal.overflow_shr-marks
 overflow_shr-marks c =
     let h : Width c.loop-first.first c.args.cycles c.if-left-lt32.width =
-        elim c.if-left-lt32.branch [
-          then-left-lt32 w ↦ width-short _ _ _ c.loop-first-test.true w.if-left-lt32.true w.width-is
-        | else-left-lt32 w ↦ width-long _ _ _ c.loop-first-test.true w.if-left-lt32.false w.width-is ] in
+    elim c.if-left-lt32.branch [
+      | then-left-lt32 w ↦ width-short _ _ _ c.loop-first-test.true w.if-left-lt32.true w.width-is
+      | else-left-lt32 w ↦ width-long _ _ _ c.loop-first-test.true w.if-left-lt32.false w.width-is
+    ] in
     omega (arith, h.0)
 
 pub store_places-next-requires : goal.store_places-next-requires
@@ -48,10 +50,10 @@ store_places-next-requires c =
     let a = c.args in
     let marks = c.marks_of in
     let h : Width c.loop-first.first c.args.cycles c.if-left-lt32.width =
-        elim c.if-left-lt32.branch [
-          then-left-lt32 w ↦ width-short _ _ _ c.loop-first-test.true w.if-left-lt32.true w.width-is
-        | else-left-lt32 w ↦ width-long _ _ _ c.loop-first-test.true w.if-left-lt32.false w.width-is ] in
-    (
+    elim c.if-left-lt32.branch [
+      | then-left-lt32 w ↦ width-short _ _ _ c.loop-first-test.true w.if-left-lt32.true w.width-is
+      | else-left-lt32 w ↦ width-long _ _ _ c.loop-first-test.true w.if-left-lt32.false w.width-is
+    ] in (
       h.1,
       first_small c.if-left-lt32.width h.1 (λ s. marked a.rows.now (c.loop-first.first + s)) marks.result marks.ensures,
       omega (arith, h.2, c.requires.0),
@@ -62,25 +64,28 @@ store_places-next-requires c =
 pub overflow_add-first : goal.overflow_add-first
 overflow_add-first c =
     let h : Width c.loop-first.first c.args.cycles c.if-left-lt32.width =
-        elim c.if-left-lt32.branch [
-          then-left-lt32 w ↦ width-short _ _ _ c.loop-first-test.true w.if-left-lt32.true w.width-is
-        | else-left-lt32 w ↦ width-long _ _ _ c.loop-first-test.true w.if-left-lt32.false w.width-is ] in
+    elim c.if-left-lt32.branch [
+      | then-left-lt32 w ↦ width-short _ _ _ c.loop-first-test.true w.if-left-lt32.true w.width-is
+      | else-left-lt32 w ↦ width-long _ _ _ c.loop-first-test.true w.if-left-lt32.false w.width-is
+    ] in
     omega (arith, h.2, c.requires.0)
 
 pub loop-first-smaller : goal.loop-first-smaller
 loop-first-smaller c =
     let h : Width c.loop-first.first c.args.cycles c.if-left-lt32.width =
-        elim c.if-left-lt32.branch [
-          then-left-lt32 w ↦ width-short _ _ _ c.loop-first-test.true w.if-left-lt32.true w.width-is
-        | else-left-lt32 w ↦ width-long _ _ _ c.loop-first-test.true w.if-left-lt32.false w.width-is ] in
+    elim c.if-left-lt32.branch [
+      | then-left-lt32 w ↦ width-short _ _ _ c.loop-first-test.true w.if-left-lt32.true w.width-is
+      | else-left-lt32 w ↦ width-long _ _ _ c.loop-first-test.true w.if-left-lt32.false w.width-is
+    ] in
     omega (arith, h.0, h.2)
 
 pub loop-first-preserved : goal.loop-first-preserved
 loop-first-preserved c =
     let h : Width c.loop-first.first c.args.cycles c.if-left-lt32.width =
-        elim c.if-left-lt32.branch [
-          then-left-lt32 w ↦ width-short _ _ _ c.loop-first-test.true w.if-left-lt32.true w.width-is
-        | else-left-lt32 w ↦ width-long _ _ _ c.loop-first-test.true w.if-left-lt32.false w.width-is ] in
+    elim c.if-left-lt32.branch [
+      | then-left-lt32 w ↦ width-short _ _ _ c.loop-first-test.true w.if-left-lt32.true w.width-is
+      | else-left-lt32 w ↦ width-long _ _ _ c.loop-first-test.true w.if-left-lt32.false w.width-is
+    ] in
     let marks = c.marks_of in
     picking-more c.args.rows.now c.loop-first.invariant c.if-left-lt32.width marks.result h.1 marks.ensures h.2 h.3 c.loop-first-test.true
     c.store_places-next.ensures
