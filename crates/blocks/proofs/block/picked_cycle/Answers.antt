@@ -11,8 +11,8 @@ returns c =
     let a = c.args in
     let k = get_or a.picked.now a.i 0 in
     record {
-      t-is = refl;
-      word-is =
+      t_is = refl;
+      word_is =
           elim c.if-k-eq0.branch [
             | then-k-eq0 w ↦ w.before-is ∙ word_first a.word a.words.now k w.if-k-eq0.true
             | else-k-eq0 w ↦ w.before-is ∙ word-later a.word a.words.now k w.if-k-eq0.false

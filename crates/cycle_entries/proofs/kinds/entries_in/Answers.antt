@@ -7,7 +7,7 @@ use Rattle.cycle_entries.proofs.kinds.entries_in.Goals as goal
 
 pub lost_attempts-requires : goal.lost_attempts-requires
 lost_attempts-requires c =
-    (c.requires.0.good, family-sequence c.args.c.kind (omega arith), c.requires.0.possible-word)
+    (c.requires.0.good, family-sequence c.args.c.kind (omega arith), c.requires.0.possible_word)
 
 pub overflow_cast-result : goal.overflow_cast-result
 overflow_cast-result c =

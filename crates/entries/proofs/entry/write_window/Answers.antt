@@ -35,7 +35,7 @@ write_entry-requires-2 c =
     let two = two-entries a.marks a.t a.start c.if-marks-ne3.false in (
       c.requires.2,
       c.requires.3,
-      omega (arith, c.requires.4, ap length two, first.ensures.next-is, stored-length first.ensures),
+      omega (arith, c.requires.4, ap length two, first.ensures.next_is, stored-length first.ensures),
     )
 
 pub shape_of-list : goal.shape_of-list

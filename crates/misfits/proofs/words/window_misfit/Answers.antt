@@ -4,7 +4,7 @@ use Rattle.std.proofs.Common.{◌≡◌, ℕ, ◌+◌, ◌-◌, ◌*◌, ◌^◌
 use Rattle.bus.specs.Range.{width}
 use Rattle.bus.proofs.Ranges.{width-le}
 use Rattle.rules.specs.Config.Family.{stability}
-use Rattle.rules.specs.Possible.{possible_of, without_reference, with_areference}
+use Rattle.rules.specs.Possible.{possible_of, without_reference, with_a_reference}
 use Rattle.rules.proofs.Good.{p-within, possible-are, stability-config}
 use Rattle.misfits.proofs.Misfits.{or-zero, window-is, width_room}
 use Rattle.misfits.proofs.words.window_misfit.Goals as goal
@@ -32,7 +32,7 @@ cycles_misfit-requires c =
     let k = stability-config c.args.c c.requires.0 c.requires.1 in omega (arith, k)
 
 pub returns : goal.returns
-unfolding possible_of without_reference with_areference
+unfolding possible_of without_reference with_a_reference
 returns c =
     let a = c.args in
     let k = stability-config a.c c.requires.0 c.requires.1 in

@@ -33,13 +33,13 @@ write_block-at-requires c =
     let run = c.run_block-block in (
       c.loop-t.invariant.1,
       run.ensures.0,
-      entries_fit a.c (frame_at a.trace.now) c.loop-t.t run.result.cycles c.loop-t.invariant.2 (frames a.trace.now) run.ensures.0.in-trace
+      entries_fit a.c (frame_at a.trace.now) c.loop-t.t run.result.cycles c.loop-t.invariant.2 (frames a.trace.now) run.ensures.0.in_trace
           c.requires.2,
     )
 
 pub overflow_add-t : goal.overflow_add-t
 overflow_add-t c =
-    place-fits c.run_block-block.ensures.0.in-trace c.loop-t.invariant.1.short
+    place-fits c.run_block-block.ensures.0.in_trace c.loop-t.invariant.1.short
 
 pub loop-t-smaller : goal.loop-t-smaller
 loop-t-smaller c =
@@ -50,7 +50,7 @@ pub loop-t-preserved : goal.loop-t-preserved
 loop-t-preserved c =
     let a = c.args in
     let run = c.run_block-block in (
-      run.ensures.0.in-trace,
+      run.ensures.0.in_trace,
       run.ensures.1,
       stored_more a.c (frame_at a.trace.now) c.loop-t.t run.result.cycles c.loop-t.invariant.2 c.write_block-at.ensures,
       run.ensures.0.picks.long,
