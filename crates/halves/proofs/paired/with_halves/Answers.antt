@@ -2,7 +2,7 @@
 -- one half below and of the other above. These are fewer than 1,024 rows in a half, so one more of each fits. A turn adds row k of each half. The measure is
 -- what is left of a half. After it the two counts are those of both halves, side by side in the rows, so together they are those of the whole.
 -- Assumes nothing.
-use Prim.Native.Nat.{ℕ, ◌+◌, ◌*◌, ◌/◌, ◌%◌, ◌-◌, ◌^◌, ◌<◌, ◌≤◌}
+use Prim.Native.Nat.{ℕ, ◌+◌, ◌*◌, ◌/◌, ◌%◌, ◌^◌, ◌<◌, ◌≤◌}
 use mathlib.Core.Path.{◌≡◌, sym, ap, ap₂, ◌∙◌}
 use mathlib.Core.List.{List}
 use native.Mathlib.Nat.{zero-mul}

@@ -1,6 +1,6 @@
 -- `kept_words::scan::all_stopped` meets its contract. The loop's invariant: no bits where the words passed are all 2^63, since the difference to another has some.
 -- The measure is what is left of them. Assumes nothing.
-use Rattle.std.proofs.Common.{◌≡◌, ◌+◌, ◌-◌, get_or, refl, add-one, arith}
+use Rattle.std.proofs.Common.{◌≡◌, ◌+◌, get_or, refl, add-one, arith}
 use Rattle.bits.specs.Bits.{every}
 use Rattle.misfits.proofs.Misfits.{or-zero}
 use Rattle.kept_words.proofs.Scans.{difference-zero}

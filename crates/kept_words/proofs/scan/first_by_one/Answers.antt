@@ -1,5 +1,5 @@
 -- `kept_words::scan::first_by_one` meets its contract. The loop's invariant: the words passed are possible. The measure is what is left of them. Assumes nothing.
-use Rattle.std.proofs.Common.{◌≡◌, ◌-◌, sym, ◌∙◌, add-one, arith}
+use Rattle.std.proofs.Common.{◌≡◌, sym, ◌∙◌, add-one, arith}
 use Rattle.kept_words.proofs.Scans.{passed_none, passed-one, first-at, first-none}
 use Rattle.kept_words.proofs.scan.first_by_one.Goals as goal
 

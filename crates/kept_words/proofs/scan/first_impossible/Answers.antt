@@ -1,6 +1,6 @@
 -- `kept_words::scan::first_impossible` meets its contract. The loop's invariant: the words passed are possible. A block is not empty, so the measure, what is left
 -- of the words, falls. Assumes nothing.
-use Rattle.std.proofs.Common.{◌≡◌, ◌+◌, ◌-◌, ◌<◌, ◌≤◌, length, ⊎_elim, zero-le, arith}
+use Rattle.std.proofs.Common.{◌≡◌, length, zero-le, arith}
 use Rattle.kept_words.proofs.Scans.{passed_none, first-none, first-in, passed-block}
 use Rattle.kept_words.proofs.scan.first_impossible.Goals as goal
 use Rattle.kept_words.proofs.scan.first_impossible.Goals.{then-n-t-lt-BLOCK, else-n-t-lt-BLOCK}
