@@ -1,10 +1,10 @@
 -- `blocks::block::picked_cycle` meets its contract: the word before the block's first cycle is the block's, and before any other cycle k it is the one of cycle
 -- k - 1. Assumes nothing.
 use mathlib.Core.Path.{refl, ◌∙◌}
-use mathlib.Core.Logic.{⊎_elim}
 use lib.ListN.{get_or}
 use Rattle.blocks.proofs.Cycles.{word_first, word-later}
 use Rattle.blocks.proofs.block.picked_cycle.Goals as goal
+use Rattle.blocks.proofs.block.picked_cycle.Goals.{then-k-eq0, else-k-eq0}
 
 pub returns : goal.returns
 returns c =
@@ -13,8 +13,10 @@ returns c =
     record {
       t_is = refl;
       word_is =
-          ⊎_elim (λ w. w.1 ∙ word_first a.word a.words.now k w.0.taken) (λ w. w.2 ∙ word-later a.word a.words.now k w.0.left)
-          c.if-k-eq0.branch;
+          elim c.if-k-eq0.branch [
+            | then-k-eq0 w ↦ w.before-is ∙ word_first a.word a.words.now k w.if-k-eq0.true
+            | else-k-eq0 w ↦ w.before-is ∙ word-later a.word a.words.now k w.if-k-eq0.false
+          ];
       frame_is = c.frame_at-frame.ensures;
       row_is = refl;
     }

@@ -14,44 +14,37 @@ loop-i-init c =
 
 pub picked_cycle-cycle-requires : goal.picked_cycle-cycle-requires
 picked_cycle-cycle-requires c =
-    let s = c.before.before in picked-in s.requires.0 s.requires.1 c.loop-i.i c.loop-i-test.true
+    picked-in c.requires.0 c.requires.1 c.loop-i.i c.loop-i-test.true
 
 pub entries_in-count-requires : goal.entries_in-count-requires
 entries_in-count-requires c =
-    let l = c.before.before in
-    let s = l.before in
     let cycle = c.picked_cycle-cycle in
-    let h = picked-here s.requires.0 s.requires.1 l.loop-i.i l.loop-i-test.true cycle.result cycle.ensures in
+    let h = picked-here c.requires.0 c.requires.1 c.loop-i.i c.loop-i-test.true cycle.result cycle.ensures in
     (h.0.ready, h.1)
 
 pub overflow_add-count : goal.overflow_add-count
 overflow_add-count c =
-    let at = c.before.before in
-    let s = at.before in
-    omega (arith, at.loop-i.invariant.2, c.entries_in-count.ensures.1, s.requires.1.picks.few, s.requires.1.short)
+    omega (arith, c.loop-i.invariant.2, c.entries_in-count.ensures.1, c.requires.1.picks.few, c.requires.1.short)
 
 pub overflow_step-i : goal.overflow_step-i
 overflow_step-i c =
-    let s = c.before.before in omega (arith, s.requires.1.picks.few, s.requires.1.short)
+    omega (arith, c.requires.1.picks.few, c.requires.1.short)
 
 pub loop-i-smaller : goal.loop-i-smaller
 loop-i-smaller c = omega (arith, c.loop-i-test.true)
 
 pub loop-i-preserved : goal.loop-i-preserved
 loop-i-preserved c =
-    let l = c.before.before in
-    let at = l.loop-i in
-    let s = l.before in
+    let at = c.loop-i in
     let cycle = c.picked_cycle-cycle in
-    let h = picked-here s.requires.0 s.requires.1 at.i l.loop-i-test.true cycle.result cycle.ensures in (
-      omega (arith, l.loop-i-test.true),
-      counted_next s.requires.0 s.requires.1 at.i l.loop-i-test.true h.0 at.invariant.1 c.entries_in-count.ensures.0,
+    let h = picked-here c.requires.0 c.requires.1 at.i c.loop-i-test.true cycle.result cycle.ensures in (
+      omega (arith, c.loop-i-test.true),
+      counted_next c.requires.0 c.requires.1 at.i c.loop-i-test.true h.0 at.invariant.1 c.entries_in-count.ensures.0,
       omega (arith, at.invariant.2, c.entries_in-count.ensures.1),
     )
 
 pub returns : goal.returns
 returns c =
     let at = c.loop-i in
-    let s = c.before.before in
-    let all : at.i ≡ s.args.block.marked = omega (arith, c.loop-i-test.false, at.invariant.0) in
-    record { is = rw all at at.invariant.1 ∙ ap length (block-entries s.requires.0 s.requires.1); few = omega (arith, at.invariant.2, s.requires.1.picks.few) }
+    let all : at.i ≡ c.args.block.marked = omega (arith, c.loop-i-test.false, at.invariant.0) in
+    record { is = rw all at at.invariant.1 ∙ ap length (block-entries c.requires.0 c.requires.1); few = omega (arith, at.invariant.2, c.requires.1.picks.few) }

@@ -18,32 +18,28 @@ loop-i-init c =
 
 pub picked_cycle-cycle-requires : goal.picked_cycle-cycle-requires
 picked_cycle-cycle-requires c =
-    let s = c.before.before in picked-in s.requires.0 s.requires.1 c.loop-i.i c.loop-i-test.true
+    picked-in c.requires.0 c.requires.1 c.loop-i.i c.loop-i-test.true
 
 pub write_entries-next-requires : goal.write_entries-next-requires
 write_entries-next-requires c =
-    let l = c.before.before in
-    let at = l.loop-i in
-    let s = l.before in
+    let at = c.loop-i in
     let cycle = c.picked_cycle-cycle in
-    let h = picked-here s.requires.0 s.requires.1 at.i l.loop-i-test.true cycle.result cycle.ensures in
-    (h.0.ready, h.1, row_fits s.requires.0 s.requires.1 at.i l.loop-i-test.true h.0 at.invariant.1 s.requires.2)
+    let h = picked-here c.requires.0 c.requires.1 at.i c.loop-i-test.true cycle.result cycle.ensures in
+    (h.0.ready, h.1, row_fits c.requires.0 c.requires.1 at.i c.loop-i-test.true h.0 at.invariant.1 c.requires.2)
 
 pub overflow_step-i : goal.overflow_step-i
-overflow_step-i c = let s = c.before.before in omega (arith, s.requires.1.picks.few, s.requires.1.short)
+overflow_step-i c = omega (arith, c.requires.1.picks.few, c.requires.1.short)
 
 pub loop-i-smaller : goal.loop-i-smaller
 loop-i-smaller c = omega (arith, c.loop-i-test.true)
 
 pub loop-i-preserved : goal.loop-i-preserved
 loop-i-preserved c =
-    let l = c.before.before in
-    let at = l.loop-i in
-    let s = l.before in
+    let at = c.loop-i in
     let cycle = c.picked_cycle-cycle in
-    let h = picked-here s.requires.0 s.requires.1 at.i l.loop-i-test.true cycle.result cycle.ensures in (
-      omega (arith, l.loop-i-test.true),
-      stored_next s.requires.0 s.requires.1 at.i l.loop-i-test.true h.0 at.invariant.1 c.write_entries-next.ensures,
+    let h = picked-here c.requires.0 c.requires.1 at.i c.loop-i-test.true cycle.result cycle.ensures in (
+      omega (arith, c.loop-i-test.true),
+      stored_next c.requires.0 c.requires.1 at.i c.loop-i-test.true h.0 at.invariant.1 c.write_entries-next.ensures,
     )
 
 pub shape_of-list : goal.shape_of-list
@@ -52,6 +48,5 @@ shape_of-list c = stored-length c.loop-i.invariant.1
 pub returns : goal.returns
 returns c =
     let at = c.loop-i in
-    let s = c.before.before in
-    let all : at.i ≡ s.args.block.marked = omega (arith, c.loop-i-test.false, at.invariant.0) in
-    subst (λ (es : List Entry). Stored es s.args.list.now s.args.at at.list at.next) (block-entries s.requires.0 s.requires.1) (rw all at at.invariant.1)
+    let all : at.i ≡ c.args.block.marked = omega (arith, c.loop-i-test.false, at.invariant.0) in
+    subst (λ (es : List Entry). Stored es c.args.list.now c.args.at at.list at.next) (block-entries c.requires.0 c.requires.1) (rw all at at.invariant.1)

@@ -1,7 +1,7 @@
 -- `counts::rows::marks_in` meets its contract. The loop's invariant: the tally has the marks of the rows from `from` to at−1. A turn adds the next piece, of
 -- two halves with a row at least in each, to the stretch before it. The measure is what is left of the rows. After the loop one row at most is left, and
 -- where one is, it is the last. Assumes nothing.
-use Prim.Native.Nat.{ℕ, suc, ◌+◌, ◌-◌, ◌≤◌}
+use Prim.Native.Nat.{ℕ, suc, ◌+◌, ◌≤◌}
 use mathlib.Core.Path.{◌≡◌, sym, ap, ◌∙◌}
 use native.Mathlib.Omega.{arith}
 use borrow.Author.Rules.{rules}

@@ -12,4 +12,4 @@ values true = (refl, lit≤ tt)
 values false = (refl, lit≤ tt)
 
 pub returns : goal.returns
-returns c = values c.args.b
+returns c = record { value = (values c.args.b).0; upper_bound = (values c.args.b).1 }

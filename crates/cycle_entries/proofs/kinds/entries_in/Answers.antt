@@ -7,26 +7,23 @@ use Rattle.cycle_entries.proofs.kinds.entries_in.Goals as goal
 
 pub lost_attempts-requires : goal.lost_attempts-requires
 lost_attempts-requires c =
-    let s = c.before in (s.requires.0.good, family-sequence s.args.c.kind c.if-kind-lt3.true, s.requires.0.possible_word)
+    (c.requires.0.good, family-sequence c.args.c.kind (omega arith), c.requires.0.possible_word)
 
 pub overflow_cast-result : goal.overflow_cast-result
 overflow_cast-result c =
-    let s = c.before in
-    let a = s.args in
+    let a = c.args in
     let few =
-    attempts-length a.c a.word a.frame a.row a.t s.requires.0 (family-sequence a.c.kind c.if-kind-lt3.true) c.lost_attempts.result
-    c.lost_attempts.ensures s.requires.1 in
+    attempts-length a.c a.word a.frame a.row a.t c.requires.0 (family-sequence a.c.kind (omega arith)) c.lost_attempts.result
+    c.lost_attempts.ensures c.requires.1 in
     omega (arith, few.1)
 
 pub returns-in-0-to-2 : goal.returns-in-0-to-2
 returns-in-0-to-2 c =
-    let s = c.before in
-    let a = s.args in
-    attempts-length a.c a.word a.frame a.row a.t s.requires.0 (family-sequence a.c.kind c.if-kind-lt3.true) c.lost_attempts.result
-    c.lost_attempts.ensures s.requires.1
+    let a = c.args in
+    attempts-length a.c a.word a.frame a.row a.t c.requires.0 (family-sequence a.c.kind (omega arith)) c.lost_attempts.result
+    c.lost_attempts.ensures c.requires.1
 
 pub returns-in-3-to-255 : goal.returns-in-3-to-255
 returns-in-3-to-255 c =
-    let s = c.before in
-    let a = s.args in
-    (others-count a.c a.word a.frame a.row a.t s.requires.0 c.if-kind-lt3.false s.requires.1, omega arith)
+    let a = c.args in
+    (others-count a.c a.word a.frame a.row a.t c.requires.0 (omega arith) c.requires.1, omega arith)

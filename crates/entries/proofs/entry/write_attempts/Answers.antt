@@ -1,5 +1,6 @@
 -- `entries::entry::write_attempts` meets its contract: each turn writes the entry of the highest bit and takes the bit away. Assumes nothing.
-use Prim.Native.Nat.{◌<◌}
+use Prim.Native.Nat.{ℕ, ◌<◌}
+use mathlib.Core.Path.{◌≡◌}
 use native.Mathlib.Omega.{arith}
 use lib.Pow.{pow_pos}
 use Rattle.bits.proofs.Bits.{shifted_one}
@@ -14,40 +15,35 @@ loop-rest-init c =
     writing-none a.lost a.t a.list.now a.at c.requires.1 c.ranges.lost.fits
 
 -- a word that is not 0 has a highest bit, and its attempt began after cycle 0
-some : (c : goal.In-loop-rest) → 0 < c.loop-rest.rest
-some c = omega (arith, c.loop-rest-test.true)
+some : (rest : ℕ) → (rest ≡ 0 → ⊥) → 0 < rest
+some rest h = omega arith
 
 pub overflow_sub-j : goal.overflow_sub-j
-overflow_sub-j c = (top c.loop-rest.invariant (some c)).zeros
+overflow_sub-j c = (top c.loop-rest.invariant (some _ c.loop-rest-test.true)).zeros
 
 pub overflow_sub-t : goal.overflow_sub-t
-overflow_sub-t c = omega (arith, top-young c.loop-rest.invariant (some c))
+overflow_sub-t c = omega (arith, top-young c.loop-rest.invariant (some _ c.loop-rest-test.true))
 
 pub overflow_sub-t-in-loop-rest : goal.overflow_sub-t-in-loop-rest
-overflow_sub-t-in-loop-rest c = omega (arith, top-young c.loop-rest.invariant (some c))
+overflow_sub-t-in-loop-rest c = omega (arith, top-young c.loop-rest.invariant (some _ c.loop-rest-test.true))
 
 pub write_entry-next-requires : goal.write_entry-next-requires
 write_entry-next-requires c =
-    let l = c.before in
-    let s = l.before in
-    (s.requires.0, omega (arith, top-young l.loop-rest.invariant (some l)), room l.loop-rest.invariant (some l) s.requires.2)
+    (c.requires.0, omega (arith, top-young c.loop-rest.invariant (some _ c.loop-rest-test.true)), room c.loop-rest.invariant (some _ c.loop-rest-test.true) c.requires.2)
 
 pub overflow_sub-rest : goal.overflow_sub-rest
 overflow_sub-rest c =
-    let l = c.before.before in
-    rw (shifted_one (highest 64 l.loop-rest.rest) 64 (omega arith)) (top l.loop-rest.invariant (some l)).below
+    rw (shifted_one (highest 64 c.loop-rest.rest) 64 (omega arith)) (top c.loop-rest.invariant (some _ c.loop-rest-test.true)).below
 
 pub loop-rest-smaller : goal.loop-rest-smaller
 loop-rest-smaller c =
-    let l = c.before.before in
-    let h = highest 64 l.loop-rest.rest in
-    rw (shifted_one h 64 (omega arith)) (omega (arith, (top l.loop-rest.invariant (some l)).below, pow_pos h))
+    let h = highest 64 c.loop-rest.rest in
+    rw (shifted_one h 64 (omega arith)) (omega (arith, (top c.loop-rest.invariant (some _ c.loop-rest-test.true)).below, pow_pos h))
 
 pub loop-rest-preserved : goal.loop-rest-preserved
 loop-rest-preserved c =
-    let l = c.before.before in
     let e = c.write_entry-next in
-    rw (shifted_one (highest 64 l.loop-rest.rest) 64 (omega arith)) (writing_more l.loop-rest.invariant (some l) e.ensures)
+    rw (shifted_one (highest 64 c.loop-rest.rest) 64 (omega arith)) (writing_more c.loop-rest.invariant (some _ c.loop-rest-test.true) e.ensures)
 
 pub shape_of-list : goal.shape_of-list
 shape_of-list c = stored-length c.loop-rest.invariant.stored

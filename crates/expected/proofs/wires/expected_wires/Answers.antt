@@ -2,12 +2,14 @@
 use Prim.Native.Nat.{ℕ, suc, ◌-◌, ◌<◌, zero-le}
 use mathlib.Core.Path.{◌≡◌, refl, sym, ◌∙◌}
 use native.Mathlib.Omega.{arith}
-use lib.Dec.{lit<}
+use mathlib.Core.Bool.{Bool, false}
+use lib.Dec.{lit<, leb}
 use lib.Pow.{pow_pos}
 use borrow.Author.Tests.{leb-true, leb-false}
 use Rattle.bits.specs.Bits.{bit, number}
 use Rattle.bits.proofs.Bits.{number_lt, number-none, bit_past}
 use Rattle.bus.specs.Range.{width}
+use Rattle.bus.specs.declared.range.Range.{Range}
 use Rattle.bus.proofs.Ranges.{width-le, ascends-width, turned-within, turned-width, turned-compared}
 use Rattle.rules.proofs.Good.{p-within, value_low}
 use Rattle.expected.proofs.wires.expected_wires.Goals as goal
@@ -17,54 +19,49 @@ all-bits : (w n v : ℕ) → n ≡ w → 1 < w → number (suc (n - 1 - 0)) (λ 
 all-bits w n v e l = let many : suc (w - 1 - 0) ≡ w = omega arith in rw (e, many) refl
 
 -- P is declared upwards
-ascends : (l : goal.Else-descends) → l.args.c.p.left < l.args.c.p.right
-ascends l = leb-false _ _ (sym l.descends.ensures ∙ l.if-descends.false)
+ascends : (p : Range) (b : Bool) → b ≡ leb p.right p.left → b ≡ false → p.left < p.right
+ascends p b e f = leb-false _ _ (sym e ∙ f)
 
-turned-value : (m : goal.After-masked_ascending)
-    → let a = m.args.c in
-    m.masked_ascending.result ≡ number (width a.p) (λ k. bit a.value (width a.p - 1 - k))
-turned-value m =
-    let l = m.before in
-    let a = l.args.c in
-    m.masked_ascending.ensures ∙ all-bits (width a.p) m.width.result a.value m.width.ensures (ascends-width a.p (ascends l))
+turned-value : (p : Range) (v w r : ℕ) → p.left < p.right → w ≡ width p → r ≡ number (suc (w - 1 - 0)) (λ k. bit v (w - 1 - k))
+    → r ≡ number (width p) (λ k. bit v (width p - 1 - k))
+turned-value p v w r l e f = f ∙ all-bits (width p) w v e (ascends-width p l)
 
 pub on_wires-requires : goal.on_wires-requires
-on_wires-requires c =
-    let s = c.before in
-    (p-within s.args.c s.requires, leb-true _ _ (sym c.descends.ensures ∙ c.if-descends.true), value_low s.args.c s.requires)
+on_wires-requires c = (
+  p-within c.args.c c.requires,
+  leb-true _ _ (sym c.descends.ensures ∙ c.if-descends.true),
+  value_low c.args.c c.requires,
+)
 
 pub overflow_sub-width : goal.overflow_sub-width
 overflow_sub-width c =
-    let l = c.before in omega (arith, c.width.ensures, ascends-width l.args.c.p (ascends l))
+    omega (arith, c.width.ensures, ascends-width c.args.c.p (ascends c.args.c.p _ c.descends.ensures c.if-descends.false))
 
 pub masked_ascending-requires : goal.masked_ascending-requires
 masked_ascending-requires c =
-    let l = c.before in
-    let s = l.before in
-    omega (arith, c.width.ensures, ascends-width s.args.c.p (ascends l), width-le s.args.c.p (p-within s.args.c s.requires))
+    omega (arith, c.width.ensures, ascends-width c.args.c.p (ascends c.args.c.p _ c.descends.ensures c.if-descends.false), width-le c.args.c.p (p-within c.args.c c.requires))
 
 pub on_wires-requires-2 : goal.on_wires-requires-2
 on_wires-requires-2 c =
-    let l = c.before in
-    let s = l.before in
-    let a = s.args.c in
+    let a = c.args.c in
     let t = c.turned in
+    let up = ascends a.p _ c.descends.ensures c.if-descends.false in
     let wide = turned-width a.p t.result t.ensures.0 t.ensures.1 in (
-      turned-within a.p t.result t.ensures.0 t.ensures.1 (p-within a s.requires),
-      omega (arith, t.ensures, ascends l),
-      rw (wide, turned-value c) (number_lt (width a.p) (λ k. bit a.value (width a.p - 1 - k))),
+      turned-within a.p t.result t.ensures.0 t.ensures.1 (p-within a c.requires),
+      omega (arith, t.ensures, up),
+      rw (wide, turned-value a.p a.value _ _ up c.width.ensures c.masked_ascending.ensures) (number_lt (width a.p) (λ k. bit a.value (width a.p - 1 - k))),
     )
 
 pub returns : goal.returns
 returns c =
-    let m = c.before in
-    let s = m.before in
-    let a = s.args.c in
-    let t = m.turned in
+    let a = c.args.c in
+    let t = c.turned in
+    let up = ascends a.p _ c.descends.ensures c.if-descends.false in
     record {
       same = λ wires.
           c.on_wires-2.ensures.by_index wires
-          ∙ turned-compared a.p t.result t.ensures.0 t.ensures.1 a.value m.masked_ascending.result (value_low a s.requires) (turned-value m) wires;
+          ∙ turned-compared a.p t.result t.ensures.0 t.ensures.1 a.value c.masked_ascending.result (value_low a c.requires)
+          (turned-value a.p a.value _ _ up c.width.ensures c.masked_ascending.ensures) wires;
       none = λ wires.
           c.on_wires-2.ensures.by_index_2 wires
           ∙ turned-compared a.p t.result t.ensures.0 t.ensures.1 0 0 (pow_pos (width a.p))

@@ -10,7 +10,6 @@ returns-then-refused-ne0 c = record {
   refusal_is = c.search_refusal-refused.ensures;
   refused = λ _. (refl, refl, refl);
   done = λ z. absurd (c.if-refused-ne0.true z);
-
 }
 
 pub search-requires : goal.search-requires

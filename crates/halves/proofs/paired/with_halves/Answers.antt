@@ -2,7 +2,7 @@
 -- one half below and of the other above. These are fewer than 1,024 rows in a half, so one more of each fits. A turn adds row k of each half. The measure is
 -- what is left of a half. After it the two counts are those of both halves, side by side in the rows, so together they are those of the whole.
 -- Assumes nothing.
-use Prim.Native.Nat.{ℕ, ◌+◌, ◌*◌, ◌/◌, ◌%◌, ◌-◌, ◌^◌, ◌<◌, ◌≤◌}
+use Prim.Native.Nat.{ℕ, ◌+◌, ◌*◌, ◌/◌, ◌%◌, ◌^◌, ◌<◌, ◌≤◌}
 use mathlib.Core.Path.{◌≡◌, sym, ap, ap₂, ◌∙◌}
 use mathlib.Core.List.{List}
 use native.Mathlib.Nat.{zero-mul}
@@ -62,31 +62,31 @@ loop-k-preserved c =
     )
 
 -- after the loop the sums hold the counts of both halves, which are those of all the rows
-all-counted : (c : goal.After-loop-k) (i : ℕ) → i < marks
-    → get_or c.loop-k.paired.sums i 0 / 2 ^ i % 65536 + get_or c.loop-k.paired.sums i 0 / 2 ^ i / 65536
-    ≡ marks_in c.args.rows.now i c.args.from
-    (c.args.from + c.args.half + c.args.half)
-all-counted c i h =
-    let at = c.loop-k in
-    let args = c.args in
-    let rows = args.rows.now in
-    let middle = args.from + args.half in
-    let end : at.k ≡ args.half = omega arith in
-    ap (λ (n : ℕ). n / 2 ^ i % 65536 + n / 2 ^ i / 65536) (at.invariant.1 i h)
-    ∙ both-counts (first rows args.from at.k i) (first rows middle at.k i) i (omega (arith, first-le rows args.from at.k i))
-    ∙ ap (λ (k : ℕ). first rows args.from k i + first rows middle k i) end
-    ∙ sym (marks-split rows i args.from middle (middle + args.half) (omega arith) (omega arith))
+all-counted : (rows sums : List ℕ) (from half k i : ℕ) → half ≤ 1024 → k ≡ half
+    → get_or sums i 0 ≡ (first rows (from + half) k i * 65536 + first rows from k i) * 2 ^ i
+    → get_or sums i 0 / 2 ^ i % 65536 + get_or sums i 0 / 2 ^ i / 65536 ≡ marks_in rows i from (from + half + half)
+all-counted rows sums from half k i few end e =
+    let middle = from + half in
+    ap (λ (n : ℕ). n / 2 ^ i % 65536 + n / 2 ^ i / 65536) e
+    ∙ both-counts (first rows from k i) (first rows middle k i) i (omega (arith, first-le rows from k i))
+    ∙ ap (λ (j : ℕ). first rows from j i + first rows middle j i) end
+    ∙ sym (marks-split rows i from middle (middle + half) (omega arith) (omega arith))
 
 pub onto-requires : goal.onto-requires
 onto-requires c i h =
     let args = c.args in
+    let at = c.loop-k in
     omega (
       arith,
-      all-counted c i h,
+      all-counted args.rows.now at.paired.sums args.from args.half at.k i c.requires.half_bound.0 (omega arith) (at.invariant.1 i h),
       marks-le args.rows.now i args.from (args.from + args.half + args.half),
       c.requires.by_index i h,
     )
 
 pub returns : goal.returns
 returns c i h =
-    c.onto.ensures i h ∙ ap (λ (n : ℕ). get_or c.args.tally.counts i 0 + n) (all-counted c.before.before i h)
+    let args = c.args in
+    let at = c.loop-k in
+    c.onto.ensures i h
+    ∙ ap (λ (n : ℕ). get_or args.tally.counts i 0 + n)
+    (all-counted args.rows.now at.paired.sums args.from args.half at.k i c.requires.half_bound.0 (omega arith) (at.invariant.1 i h))

@@ -1,39 +1,42 @@
 -- `kept_words::scan::first_impossible` meets its contract. The loop's invariant: the words passed are possible. A block is not empty, so the measure, what is left
 -- of the words, falls. Assumes nothing.
-use Rattle.std.proofs.Common.{◌≡◌, ◌+◌, ◌-◌, ◌<◌, ◌≤◌, length, ⊎_elim, zero-le, arith}
+use Rattle.std.proofs.Common.{◌≡◌, length, zero-le, arith}
 use Rattle.kept_words.proofs.Scans.{passed_none, first-none, first-in, passed-block}
 use Rattle.kept_words.proofs.scan.first_impossible.Goals as goal
+use Rattle.kept_words.proofs.scan.first_impossible.Goals.{then-n-t-lt-BLOCK, else-n-t-lt-BLOCK}
 
 pub loop-t-init : goal.loop-t-init
 loop-t-init c = let a = c.args in passed_none a.c a.words.now 0 (length a.words.now) zero-le
 
 -- a block has some of the words that are left
-block : (c : goal.Joined-n-t-lt-BLOCK) → (0 < c.if-n-t-lt-BLOCK.count) × (c.loop-t.t + c.if-n-t-lt-BLOCK.count ≤ length c.args.words.now)
-block c = ⊎_elim (λ w. omega (arith, w.1)) (λ w. omega (arith, w.1)) c.if-n-t-lt-BLOCK.branch
-
 pub first_in_block-reached-requires : goal.first_in_block-reached-requires
-first_in_block-reached-requires c = (c.requires, (block c).0, (block c).1)
+first_in_block-reached-requires c = (
+  c.requires,
+  elim c.if-n-t-lt-BLOCK.branch [ then-n-t-lt-BLOCK w ↦ omega arith | else-n-t-lt-BLOCK w ↦ omega arith ],
+  elim c.if-n-t-lt-BLOCK.branch [ then-n-t-lt-BLOCK w ↦ omega arith | else-n-t-lt-BLOCK w ↦ omega arith ],
+)
 
 pub overflow_add-t : goal.overflow_add-t
-overflow_add-t c = omega (arith, block c.before.before)
+overflow_add-t c =
+    elim c.if-n-t-lt-BLOCK.branch [ then-n-t-lt-BLOCK w ↦ omega arith | else-n-t-lt-BLOCK w ↦ omega arith ]
 
 pub returns-then-reached-t : goal.returns-then-reached-t
 returns-then-reached-t c =
-    let j = c.before.before in
-    let a = j.args in
-    first-in a.c a.words.now 0 (length a.words.now) j.loop-t.invariant (block j).1 c.first_in_block-reached.ensures c.if-reached-t.true
+    let a = c.args in
+    first-in a.c a.words.now 0 (length a.words.now) c.loop-t.invariant (elim c.if-n-t-lt-BLOCK.branch [ then-n-t-lt-BLOCK w ↦ omega arith | else-n-t-lt-BLOCK w ↦ omega arith ]) c.first_in_block-reached.ensures c.if-reached-t.true
 
 pub overflow_add-t-in-loop-t : goal.overflow_add-t-in-loop-t
-overflow_add-t-in-loop-t c = omega (arith, block c.before.before)
+overflow_add-t-in-loop-t c =
+    elim c.if-n-t-lt-BLOCK.branch [ then-n-t-lt-BLOCK w ↦ omega arith | else-n-t-lt-BLOCK w ↦ omega arith ]
 
 pub loop-t-smaller : goal.loop-t-smaller
-loop-t-smaller c = omega (arith, block c.before.before)
+loop-t-smaller c =
+    elim c.if-n-t-lt-BLOCK.branch [ then-n-t-lt-BLOCK w ↦ omega arith | else-n-t-lt-BLOCK w ↦ omega arith ]
 
 pub loop-t-preserved : goal.loop-t-preserved
 loop-t-preserved c =
-    let j = c.before.before in
-    let a = j.args in
-    passed-block a.c a.words.now 0 (length a.words.now) j.loop-t.invariant (block j).1 c.first_in_block-reached.ensures c.if-reached-t.false
+    let a = c.args in
+    passed-block a.c a.words.now 0 (length a.words.now) c.loop-t.invariant (elim c.if-n-t-lt-BLOCK.branch [ then-n-t-lt-BLOCK w ↦ omega arith | else-n-t-lt-BLOCK w ↦ omega arith ]) c.first_in_block-reached.ensures c.if-reached-t.false
 
 pub returns : goal.returns
 returns c =

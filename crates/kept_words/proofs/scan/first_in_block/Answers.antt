@@ -6,8 +6,7 @@ use Rattle.kept_words.proofs.scan.first_in_block.Goals as goal
 
 pub returns-then-is_possible-all_stopped : goal.returns-then-is_possible-all_stopped
 returns-then-is_possible-all_stopped c =
-    let s = c.before.before in
-    let a = s.args in
+    let a = c.args in
     let all = c.all_stopped in
     let can = c.is_possible in
     let both = of-true c.if-is_possible-all_stopped.true in

@@ -1,6 +1,6 @@
 -- `kept_words::scan::misfits_in` meets its contract. The loop's invariant: no bits where each of the words passed is possible for a checker that goes on. The
 -- measure is what is left of them. Assumes nothing.
-use Rattle.std.proofs.Common.{◌≡◌, ◌-◌, refl, add-one, arith}
+use Rattle.std.proofs.Common.{◌≡◌, refl, add-one, arith}
 use Rattle.bits.specs.Bits.{every}
 use Rattle.misfits.proofs.Misfits.{or-zero}
 use Rattle.kept_words.proofs.scan.misfits_in.Goals as goal

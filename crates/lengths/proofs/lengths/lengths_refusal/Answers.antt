@@ -1,7 +1,7 @@
 -- `lengths::lengths::lengths_refusal` meets its contract: the tests come in the order of the refusal numbers. Assumes nothing.
 use mathlib.Core.Path.{refl, sym, ◌∙◌}
 use mathlib.Core.Bool.{true, false}
-use borrow.Author.Tests.{eq-eqb, ne_eqb, not-true, not-false}
+use borrow.Author.Tests.{eq-eqb, ne_eqb}
 use Rattle.lengths.proofs.Refusals.{check-refusal}
 use Rattle.lengths.proofs.lengths.lengths_refusal.Goals as goal
 
@@ -16,20 +16,20 @@ returns-then-not-trace-cycles c = λ ts rs ws p q r.
     let a = c.args in
     sym
     (check-refusal a.c ts rs ws a.trace a.rows a.words _ p q r c.frames_in-cycles.ensures true false _
-    (eq-eqb _ 0 (sym c.config_refusal-refused.ensures ∙ c.if-refused-ne0.false)) (not-true _ c.if-not-trace-cycles.true) refl)
+    (eq-eqb _ 0 (sym c.config_refusal-refused.ensures ∙ c.if-refused-ne0.false)) (c.if-not-trace-cycles.true) refl)
 
 pub returns-then-not-rows-cycles : goal.returns-then-not-rows-cycles
 returns-then-not-rows-cycles c = λ ts rs ws p q r.
     let a = c.args in
     sym
     (check-refusal a.c ts rs ws a.trace a.rows a.words _ p q r c.frames_in-cycles.ensures true true false
-    (eq-eqb _ 0 (sym c.config_refusal-refused.ensures ∙ c.if-refused-ne0.false)) (not-false _ c.if-not-trace-cycles.false)
-    (not-true _ c.if-not-rows-cycles.true))
+    (eq-eqb _ 0 (sym c.config_refusal-refused.ensures ∙ c.if-refused-ne0.false)) (c.if-not-trace-cycles.false)
+    (c.if-not-rows-cycles.true))
 
 pub returns : goal.returns
 returns c = λ ts rs ws p q r.
     let a = c.args in
     sym
     (check-refusal a.c ts rs ws a.trace a.rows a.words _ p q r c.frames_in-cycles.ensures true true true
-    (eq-eqb _ 0 (sym c.config_refusal-refused.ensures ∙ c.if-refused-ne0.false)) (not-false _ c.if-not-trace-cycles.false)
-    (not-false _ c.if-not-rows-cycles.false))
+    (eq-eqb _ 0 (sym c.config_refusal-refused.ensures ∙ c.if-refused-ne0.false)) (c.if-not-trace-cycles.false)
+    (c.if-not-rows-cycles.false))

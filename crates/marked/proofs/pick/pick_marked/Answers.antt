@@ -1,63 +1,93 @@
 -- `marked::pick::pick_marked` meets its contract. The loop's invariant: the rows before `first` are picked, and where rows are left, those passed are whole words
 -- of 32. The measure is what is left of the rows. Assumes nothing.
-use Prim.Native.Nat.{◌+◌, ◌-◌, ◌≤◌, ◌<◌}
+use Prim.Native.Nat.{ℕ, ◌+◌, ◌-◌, ◌≤◌, ◌<◌}
 use mathlib.Core.Path.{◌≡◌}
-use mathlib.Core.Logic.{⊎_elim}
 use native.Mathlib.Omega.{arith}
 use Rattle.marked.specs.Picks.{marked}
 use Rattle.marked.proofs.Places.{first_small, picking-none, picking-more}
 use Rattle.marked.proofs.pick.pick_marked.Goals as goal
+use Rattle.marked.proofs.pick.pick_marked.Goals.{then-left-lt32, else-left-lt32}
 
 pub loop-first-init : goal.loop-first-init
 loop-first-init c = picking-none c.args.rows.now c.args.cycles c.args.picked.now c.requires.1
 
 -- the rows of the word
-width_is : (c : goal.Joined-left-lt32) → (0 < c.if-left-lt32.width) × (c.if-left-lt32.width ≤ 32)
-    × (c.loop-first.first + c.if-left-lt32.width ≤ c.args.cycles)
-    × (c.loop-first.first + c.if-left-lt32.width < c.args.cycles → c.if-left-lt32.width ≡ 32)
-width_is c =
-    ⊎_elim (λ w. (omega arith, omega arith, omega arith, λ h. absurd (omega arith))) (λ w. (omega arith, omega arith, omega arith, λ h. w.1)) c.if-left-lt32.branch
+abbrev Width : ℕ → ℕ → ℕ → Type 0
+Width first cycles w = (0 < w) × (w ≤ 32) × (first + w ≤ cycles) × (first + w < cycles → w ≡ 32)
+
+width-short : (first cycles w : ℕ) → first < cycles → cycles - first < 32 → w ≡ cycles - first → Width first cycles w
+width-short first cycles w h l e = (omega arith, omega arith, omega arith, λ g. absurd (omega arith))
+
+width-long : (first cycles w : ℕ) → first < cycles → 32 ≤ cycles - first → w ≡ 32 → Width first cycles w
+width-long first cycles w h l e = (omega arith, omega arith, omega arith, λ g. e)
 
 pub marks_of-requires : goal.marks_of-requires
 marks_of-requires c =
-    let at = c.before in
     let here = c.loop-first-test.true in
-    let whole = at.loop-first.invariant.whole here in
-    omega (arith, at.requires.0)
+    let whole = c.loop-first.invariant.whole here in
+    omega (arith, c.requires.0)
 
 pub overflow_sub-marks : goal.overflow_sub-marks
-overflow_sub-marks c = omega (arith, (width_is c.before.before).1)
+overflow_sub-marks c =
+    let h : Width c.loop-first.first c.args.cycles c.if-left-lt32.width =
+    elim c.if-left-lt32.branch [
+      | then-left-lt32 w ↦ width-short _ _ _ c.loop-first-test.true w.if-left-lt32.true w.width-is
+      | else-left-lt32 w ↦ width-long _ _ _ c.loop-first-test.true w.if-left-lt32.false w.width-is
+    ] in
+    omega (arith, h.1)
 
 pub overflow_shr-marks : goal.overflow_shr-marks
-overflow_shr-marks c = omega (arith, (width_is c.before.before).0)
+overflow_shr-marks c =
+    let h : Width c.loop-first.first c.args.cycles c.if-left-lt32.width =
+    elim c.if-left-lt32.branch [
+      | then-left-lt32 w ↦ width-short _ _ _ c.loop-first-test.true w.if-left-lt32.true w.width-is
+      | else-left-lt32 w ↦ width-long _ _ _ c.loop-first-test.true w.if-left-lt32.false w.width-is
+    ] in
+    omega (arith, h.0)
 
 pub store_places-next-requires : goal.store_places-next-requires
 store_places-next-requires c =
-    let j = c.before.before in
-    let at = j.before in
-    let a = at.args in
+    let a = c.args in
     let marks = c.marks_of in
-    let h = width_is j in (
+    let h : Width c.loop-first.first c.args.cycles c.if-left-lt32.width =
+    elim c.if-left-lt32.branch [
+      | then-left-lt32 w ↦ width-short _ _ _ c.loop-first-test.true w.if-left-lt32.true w.width-is
+      | else-left-lt32 w ↦ width-long _ _ _ c.loop-first-test.true w.if-left-lt32.false w.width-is
+    ] in (
       h.1,
-      first_small j.if-left-lt32.width h.1 (λ s. marked a.rows.now (at.loop-first.first + s)) marks.result marks.ensures,
-      omega (arith, h.2, at.requires.0),
-      at.loop-first.invariant.picks.few,
-      at.loop-first.invariant.picks.long,
+      first_small c.if-left-lt32.width h.1 (λ s. marked a.rows.now (c.loop-first.first + s)) marks.result marks.ensures,
+      omega (arith, h.2, c.requires.0),
+      c.loop-first.invariant.picks.few,
+      c.loop-first.invariant.picks.long,
     )
 
 pub overflow_add-first : goal.overflow_add-first
-overflow_add-first c = let j = c.before in omega (arith, (width_is j).2, j.requires.0)
+overflow_add-first c =
+    let h : Width c.loop-first.first c.args.cycles c.if-left-lt32.width =
+    elim c.if-left-lt32.branch [
+      | then-left-lt32 w ↦ width-short _ _ _ c.loop-first-test.true w.if-left-lt32.true w.width-is
+      | else-left-lt32 w ↦ width-long _ _ _ c.loop-first-test.true w.if-left-lt32.false w.width-is
+    ] in
+    omega (arith, h.2, c.requires.0)
 
 pub loop-first-smaller : goal.loop-first-smaller
-loop-first-smaller c = let h = width_is c.before in omega (arith, h.0, h.2)
+loop-first-smaller c =
+    let h : Width c.loop-first.first c.args.cycles c.if-left-lt32.width =
+    elim c.if-left-lt32.branch [
+      | then-left-lt32 w ↦ width-short _ _ _ c.loop-first-test.true w.if-left-lt32.true w.width-is
+      | else-left-lt32 w ↦ width-long _ _ _ c.loop-first-test.true w.if-left-lt32.false w.width-is
+    ] in
+    omega (arith, h.0, h.2)
 
 pub loop-first-preserved : goal.loop-first-preserved
 loop-first-preserved c =
-    let j = c.before in
-    let at = j.before in
-    let h = width_is j in
+    let h : Width c.loop-first.first c.args.cycles c.if-left-lt32.width =
+    elim c.if-left-lt32.branch [
+      | then-left-lt32 w ↦ width-short _ _ _ c.loop-first-test.true w.if-left-lt32.true w.width-is
+      | else-left-lt32 w ↦ width-long _ _ _ c.loop-first-test.true w.if-left-lt32.false w.width-is
+    ] in
     let marks = c.marks_of in
-    picking-more at.args.rows.now at.loop-first.invariant j.if-left-lt32.width marks.result h.1 marks.ensures h.2 h.3 j.loop-first-test.true
+    picking-more c.args.rows.now c.loop-first.invariant c.if-left-lt32.width marks.result h.1 marks.ensures h.2 h.3 c.loop-first-test.true
     c.store_places-next.ensures
 
 pub returns : goal.returns

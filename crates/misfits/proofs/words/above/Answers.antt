@@ -4,6 +4,5 @@ use Rattle.misfits.proofs.words.above.Goals as goal
 
 pub returns : goal.returns
 returns c =
-    let s = c.before in
-    above-is s.args.word s.args.limit s.args.bits c.wrapping_add_u64.result s.requires.0 s.requires.1
-    (rw c.low_ones.ensures at c.wrapping_add_u64.ensures)
+    above-is c.args.word c.args.limit c.args.bits c.wrapping_add_u64.result c.requires.0 c.requires.1
+    (rw c.low_ones.ensures at c.wrapping_add_u64.ensures.value)

@@ -6,24 +6,24 @@ use Rattle.rules.proofs.Good.{family-sequence, family-time, family-transition, f
 use Rattle.misfits.proofs.words.misfit.Goals as goal
 
 pub stored_misfit-requires : goal.stored_misfit-requires
-stored_misfit-requires c = let s = c.before in (s.requires, family-transition s.args.c.kind c.in-6.keys1)
+stored_misfit-requires c = (c.requires, family-transition c.args.c.kind c.in-6.is)
 
 pub window_misfit-requires : goal.window_misfit-requires
-window_misfit-requires c = let s = c.before in (s.requires, family-stability s.args.c.kind c.in-8.keys3)
+window_misfit-requires c = (c.requires, family-stability c.args.c.kind c.in-8.is)
 
 pub attempts_misfit-requires : goal.attempts_misfit-requires
-attempts_misfit-requires c = let s = c.before in (s.requires, family-sequence s.args.c.kind c.if-kind-lt3.true)
+attempts_misfit-requires c = (c.requires, family-sequence c.args.c.kind (omega arith))
 
 pub returns-in-7 : goal.returns-in-7
 unfolding possible_of
 returns-in-7 c =
-    let a = c.args in c.above.ensures ∙ possible-are a.c a.word value (family-value a.c.kind c.in-7.keys2)
+    let a = c.args in c.above.ensures ∙ possible-are a.c a.word value (family-value a.c.kind c.in-7.is)
 
 pub returns-in-3-to-5 : goal.returns-in-3-to-5
 unfolding possible_of
 returns-in-3-to-5 c =
     let a = c.args in
-    c.above-in-3-to-5.ensures ∙ possible-are a.c a.word time (family-time a.c.kind c.if-kind-lt3.false c.if-kind-lt6.true)
+    c.above-in-3-to-5.ensures ∙ possible-are a.c a.word time (family-time a.c.kind (omega arith) (omega arith))
 
 pub returns-in-9-to-255 : goal.returns-in-9-to-255
 unfolding possible_of

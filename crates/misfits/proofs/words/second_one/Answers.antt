@@ -4,4 +4,4 @@ use Rattle.misfits.proofs.Misfits.{second_is}
 use Rattle.misfits.proofs.words.second_one.Goals as goal
 
 pub returns : goal.returns
-returns c = second_is c.args.word c.wrapping_sub_u64.result (omega (arith, c.wrapping_sub_u64.type-inv)) c.wrapping_sub_u64.ensures
+returns c = second_is c.args.word c.wrapping_sub_u64.result (omega (arith, c.wrapping_sub_u64.type_inv)) c.wrapping_sub_u64.ensures.value

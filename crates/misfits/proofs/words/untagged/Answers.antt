@@ -5,5 +5,4 @@ use Rattle.misfits.proofs.words.untagged.Goals as goal
 
 pub returns : goal.returns
 returns c =
-    let s = c.before in
-    untagged-is s.args.word s.args.tag s.args.bits c.wrapping_sub_u64.result s.ranges.word.fits (omega (arith, c.wrapping_sub_u64.type-inv)) c.wrapping_sub_u64.ensures
+    untagged-is c.args.word c.args.tag c.args.bits c.wrapping_sub_u64.result c.ranges.word.fits (omega (arith, c.wrapping_sub_u64.type_inv)) c.wrapping_sub_u64.ensures.value

@@ -16,11 +16,11 @@ unfolding with_a_reference
 returns-then-word-lt-REFERENCE_HELD c = rw (lt-leb (2 ^ 48) _ c.if-word-lt-REFERENCE_HELD.true) refl
 
 pub overflow_sub-result : goal.overflow_sub-result
-overflow_sub-result c = let at = c.before in omega (arith, stability-config at.args.c at.requires.0 at.requires.1)
+overflow_sub-result c = omega (arith, stability-config c.args.c c.requires.0 c.requires.1)
 
 pub low_ones-requires : goal.low_ones-requires
 low_ones-requires c =
-    let at = c.before in omega (arith, c.width.ensures, width-le at.args.c.p (p-within at.args.c at.requires.0))
+    omega (arith, c.width.ensures, width-le c.args.c.p (p-within c.args.c c.requires.0))
 
 pub returns : goal.returns
 unfolding with_a_reference

@@ -10,38 +10,35 @@ use Rattle.open_words.proofs.words.is_unfinished.Goals as goal
 
 pub is_stored-requires : goal.is_stored-requires
 is_stored-requires c =
-    let at = c.before in
-    omega (arith, c.width.ensures, width-le at.args.c.p (p-within at.args.c at.requires))
+    omega (arith, c.width.ensures, width-le c.args.c.p (p-within c.args.c c.requires))
 
 pub overflow_sub-n : goal.overflow_sub-n
 overflow_sub-n c =
-    let at = c.before in
-    omega (arith, sequence-config at.args.c at.requires (family-sequence at.args.c.kind c.if-kind-lt3.true))
+    omega (arith, sequence-config c.args.c c.requires (family-sequence c.args.c.kind (omega arith)))
 
 pub low_ones-requires : goal.low_ones-requires
 low_ones-requires c =
-    let at = c.before in
-    omega (arith, sequence-config at.args.c at.requires (family-sequence at.args.c.kind c.if-kind-lt3.true))
+    omega (arith, sequence-config c.args.c c.requires (family-sequence c.args.c.kind (omega arith)))
 
 pub returns-in-6 : goal.returns-in-6
 unfolding possible_of
 returns-in-6 c =
     let a = c.args in
     rw (c.is_stored.ensures, c.width.ensures)
-    (possible-are a.c a.word transition (family-transition a.c.kind c.in-6.keys1))
+    (possible-are a.c a.word transition (family-transition a.c.kind c.in-6.is))
 
 pub returns-in-0-to-2 : goal.returns-in-0-to-2
 unfolding possible_of
 returns-in-0-to-2 c =
     let a = c.args in
     rw (c.low_ones.ensures, le-ones-lt (a.c.n - 1) a.word)
-    (possible-are a.c a.word sequence (family-sequence a.c.kind c.if-kind-lt3.true))
+    (possible-are a.c a.word sequence (family-sequence a.c.kind (omega arith)))
 
 pub returns-in-3-to-5 : goal.returns-in-3-to-5
 unfolding possible_of
 returns-in-3-to-5 c =
     let a = c.args in
-    possible-are a.c a.word time (family-time a.c.kind c.if-kind-lt3.false c.if-kind-lt6.true)
+    possible-are a.c a.word time (family-time a.c.kind (omega arith) (omega arith))
 
 pub returns-in-9-to-255 : goal.returns-in-9-to-255
 unfolding possible_of

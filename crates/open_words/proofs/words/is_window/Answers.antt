@@ -12,13 +12,11 @@ returns-then-c-eq7 c =
 
 pub has_reference-requires : goal.has_reference-requires
 has_reference-requires c =
-    let s = c.before in
-    (s.requires.0, family-stability s.args.c.kind (omega (arith, c.if-c-eq7.false, kind-low s.args.c s.requires.0, s.requires.1)))
+    (c.requires.0, family-stability c.args.c.kind (omega (arith, c.if-c-eq7.false, kind-low c.args.c c.requires.0, c.requires.1)))
 
 pub returns : goal.returns
 unfolding possible_of
 returns c =
-    let s = c.before in
-    let a = s.args in
-    let fam = family-stability a.c.kind (omega (arith, c.if-c-eq7.false, kind-low a.c s.requires.0, s.requires.1)) in
+    let a = c.args in
+    let fam = family-stability a.c.kind (omega (arith, c.if-c-eq7.false, kind-low a.c c.requires.0, c.requires.1)) in
     rw (c.has_reference.ensures, c.has_no_reference.ensures) (possible-are a.c a.word stability fam)

@@ -12,15 +12,13 @@ frames_in-cycles-requires c = tt
 
 pub loop-t-init : goal.loop-t-init
 loop-t-init c =
-    let s = c.before.before in
-    let a = s.args in
-    (zero-le, passing-none a.c a.trace.now s.requires.0 s.requires.1, counted_none a.c (frame_at a.trace.now), refl)
+    let a = c.args in
+    (zero-le, passing-none a.c a.trace.now c.requires.0 c.requires.1, counted_none a.c (frame_at a.trace.now), refl)
 
 pub run_block-block-requires : goal.run_block-block-requires
 unfolding frames
 run_block-block-requires c =
-    let l = c.before.before in
-    (l.loop-t.invariant.1, rw l.frames_in-cycles.ensures at l.loop-t-test.true, l.loop-t.invariant.3)
+    (c.loop-t.invariant.1, rw c.frames_in-cycles.ensures at c.loop-t-test.true, c.loop-t.invariant.3)
 
 pub count_block-count-requires : goal.count_block-count-requires
 count_block-count-requires c = (c.loop-t.invariant.1, c.run_block-block.ensures.0)
@@ -34,22 +32,20 @@ overflow_add-count c =
 
 pub overflow_add-t : goal.overflow_add-t
 overflow_add-t c =
-    let block = c.before.before in place-fits block.run_block-block.ensures.0.in_trace block.loop-t.invariant.1.short
+    place-fits c.run_block-block.ensures.0.in_trace c.loop-t.invariant.1.short
 
 pub loop-t-smaller : goal.loop-t-smaller
 loop-t-smaller c =
-    let l = c.before.before in
     let run = c.run_block-block in
-    left-falls l.frames_in-cycles.result l.loop-t.t run.result.cycles l.loop-t-test.true run.ensures.2
+    left-falls c.frames_in-cycles.result c.loop-t.t run.result.cycles c.loop-t-test.true run.ensures.2
 
 pub loop-t-preserved : goal.loop-t-preserved
 loop-t-preserved c =
-    let at = c.before.before in
-    let a = at.args in
+    let a = c.args in
     let run = c.run_block-block in (
       run.ensures.0.in_trace,
       run.ensures.1,
-      counted-more a.c (frame_at a.trace.now) at.loop-t.t run.result.cycles at.loop-t.invariant.2 c.count_block-count.ensures,
+      counted-more a.c (frame_at a.trace.now) c.loop-t.t run.result.cycles c.loop-t.invariant.2 c.count_block-count.ensures,
       run.ensures.0.picks.long,
     )
 
@@ -57,6 +53,5 @@ pub returns : goal.returns
 unfolding frames
 returns c =
     let at = c.loop-t in
-    let s = c.before.before in
-    let all : at.t ≡ frames s.args.trace.now = all-passed (rw c.frames_in-cycles.ensures at c.loop-t-test.false) at.invariant.0 in
-    counted-all s.args.c s.args.trace.now at.t all s.requires.1 at.invariant.2
+    let all : at.t ≡ frames c.args.trace.now = all-passed (rw c.frames_in-cycles.ensures at c.loop-t-test.false) at.invariant.0 in
+    counted-all c.args.c c.args.trace.now at.t all c.requires.1 at.invariant.2

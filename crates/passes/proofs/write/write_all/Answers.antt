@@ -14,10 +14,9 @@ frames_in-cycles-requires c = tt
 
 pub loop-t-init : goal.loop-t-init
 loop-t-init c =
-    let s = c.before.before in
-    let a = s.args in (
+    let a = c.args in (
       zero-le,
-      passing-none a.c a.trace.now s.requires.0 s.requires.1,
+      passing-none a.c a.trace.now c.requires.0 c.requires.1,
       entries_none a.c (frame_at a.trace.now) a.list.now,
       refl,
     )
@@ -25,41 +24,35 @@ loop-t-init c =
 pub run_block-block-requires : goal.run_block-block-requires
 unfolding frames
 run_block-block-requires c =
-    let l = c.before.before in
-    (l.loop-t.invariant.1, rw l.frames_in-cycles.ensures at l.loop-t-test.true, l.loop-t.invariant.3)
+    (c.loop-t.invariant.1, rw c.frames_in-cycles.ensures at c.loop-t-test.true, c.loop-t.invariant.3)
 
 pub write_block-at-requires : goal.write_block-at-requires
 unfolding failures_of
 write_block-at-requires c =
-    let at = c.before.before in
-    let s = at.before in
-    let a = s.args in
+    let a = c.args in
     let run = c.run_block-block in (
-      at.loop-t.invariant.1,
+      c.loop-t.invariant.1,
       run.ensures.0,
-      entries_fit a.c (frame_at a.trace.now) at.loop-t.t run.result.cycles at.loop-t.invariant.2 (frames a.trace.now) run.ensures.0.in_trace
-          s.requires.2,
+      entries_fit a.c (frame_at a.trace.now) c.loop-t.t run.result.cycles c.loop-t.invariant.2 (frames a.trace.now) run.ensures.0.in_trace
+          c.requires.2,
     )
 
 pub overflow_add-t : goal.overflow_add-t
 overflow_add-t c =
-    let block = c.before.before in
-    place-fits block.run_block-block.ensures.0.in_trace block.loop-t.invariant.1.short
+    place-fits c.run_block-block.ensures.0.in_trace c.loop-t.invariant.1.short
 
 pub loop-t-smaller : goal.loop-t-smaller
 loop-t-smaller c =
-    let l = c.before.before in
     let run = c.run_block-block in
-    left-falls l.frames_in-cycles.result l.loop-t.t run.result.cycles l.loop-t-test.true run.ensures.2
+    left-falls c.frames_in-cycles.result c.loop-t.t run.result.cycles c.loop-t-test.true run.ensures.2
 
 pub loop-t-preserved : goal.loop-t-preserved
 loop-t-preserved c =
-    let at = c.before.before in
-    let a = at.args in
+    let a = c.args in
     let run = c.run_block-block in (
       run.ensures.0.in_trace,
       run.ensures.1,
-      stored_more a.c (frame_at a.trace.now) at.loop-t.t run.result.cycles at.loop-t.invariant.2 c.write_block-at.ensures,
+      stored_more a.c (frame_at a.trace.now) c.loop-t.t run.result.cycles c.loop-t.invariant.2 c.write_block-at.ensures,
       run.ensures.0.picks.long,
     )
 
@@ -70,6 +63,5 @@ pub returns : goal.returns
 unfolding frames
 returns c =
     let at = c.loop-t in
-    let s = c.before.before in
-    let all : at.t ≡ frames s.args.trace.now = all-passed (rw c.frames_in-cycles.ensures at c.loop-t-test.false) at.invariant.0 in
-    stored-all s.args.c s.args.trace.now at.t all at.invariant.2
+    let all : at.t ≡ frames c.args.trace.now = all-passed (rw c.frames_in-cycles.ensures at c.loop-t-test.false) at.invariant.0 in
+    stored-all c.args.c c.args.trace.now at.t all at.invariant.2

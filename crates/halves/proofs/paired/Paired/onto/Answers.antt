@@ -1,6 +1,6 @@
 -- `halves::paired::Paired::onto` meets its contract. The loop's invariant: the entries below i have both halves of their sum added, without the weight, and the
 -- others are as they were. A turn writes entry i and no other. The measure is what is left of the entries. Assumes nothing.
-use Prim.Native.Nat.{ℕ, ◌+◌, ◌/◌, ◌-◌, ◌^◌, ◌%◌}
+use Prim.Native.Nat.{ℕ, ◌+◌, ◌/◌, ◌^◌, ◌%◌}
 use mathlib.Core.Path.{refl, ap}
 use native.Mathlib.Nat.{le_refl}
 use native.Mathlib.Omega.{arith}

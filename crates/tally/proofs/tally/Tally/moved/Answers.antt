@@ -1,6 +1,5 @@
 -- `tally::tally::Tally::moved` meets its contract. The loop's invariant: the entries below i have the new count added and the old one taken off, and the
 -- others are as they were. A turn writes entry i and no other. The measure is what is left of the entries. Assumes nothing.
-use Prim.Native.Nat.{◌-◌}
 use mathlib.Core.Path.{refl}
 use native.Mathlib.Nat.{le_refl}
 use native.Mathlib.Omega.{arith}

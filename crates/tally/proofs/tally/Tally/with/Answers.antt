@@ -1,6 +1,6 @@
 -- `tally::tally::Tally::with` meets its contract. The loop's invariant: the entries below i have the row's bit added, and the others are as they were.
 -- A turn writes entry i and no other. The measure is what is left of the entries. Assumes nothing.
-use Prim.Native.Nat.{◌+◌, ◌-◌}
+use Prim.Native.Nat.{◌+◌}
 use mathlib.Core.Path.{refl, sym, ap₂}
 use native.Mathlib.Nat.{le_refl}
 use native.Mathlib.Omega.{arith}
