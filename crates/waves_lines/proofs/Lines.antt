@@ -8,7 +8,8 @@ use lib.Dec.{eqb}
 use lib.ListN.{length, get_or, length-append}
 use borrow.Author.Tests.{eq-eqb, ne_eqb}
 use Rattle.waves.specs.Text.{line, decimal, each}
-use Rattle.waves.specs.Waves.{name_of}
+use Rattle.dump.specs.Text.{bytes}
+use Rattle.waves.specs.Waves.{name_of, name, declaration}
 use Rattle.waves_lines.specs.Lines.{value_line, mark_line, marks_text, row_before}
 
 pub name-length : (checker mark : ℕ) → length (name_of checker mark) ≡ length (decimal checker) + length (decimal mark) + 2
@@ -42,3 +43,16 @@ small-mark (suc (suc (suc zero))) h = omega arith
 small-mark (suc (suc (suc (suc zero)))) h = omega arith
 small-mark (suc (suc (suc (suc (suc zero))))) h = omega arith
 small-mark (suc (suc (suc (suc (suc (suc i)))))) h = absurd (omega arith)
+
+-- THE HEADER
+pub name-is : (j : ℕ) → name j ≡ name_of (j / 6) (2 ^ (j % 6))
+unfolding name
+name-is j = refl
+
+-- the line of a wire, part by part
+pub declaration-parts : (n : List ℕ) → line (declaration n) ≡ bytes "$var wire 1 " ++ n ++ bytes " " ++ n ++ bytes " $end\n"
+unfolding line
+declaration-parts n = refl
+
+pub declaration-length : (n : List ℕ) → length (line (declaration n)) ≡ length n + length n + 19
+declaration-length n = ap length (declaration-parts n) ∙ simp length-append (omega arith)

@@ -6,7 +6,6 @@ use mathlib.Core.Path.{◌≡◌}
 use Prim.Native.Nat.{◌≤◌, ◌-◌}
 use lib.ListN.{length}
 use Rattle.dump_reader.proofs.Laws as laws
-use Rattle.dump_reader.proofs.changes.good_one.Reads as good-one-reads
 use Rattle.dump_reader.proofs.changes.past_good.Given as goal
 
 abbrev pub invariant-loop-c : goal.invariant-loop-c

@@ -4,7 +4,6 @@ use mathlib.Core.Path.{refl, ◌∙◌, sym}
 use Prim.Native.Nat.{◌-◌}
 use native.Mathlib.Omega.{arith}
 use Rattle.dump_reader.proofs.Laws as laws
-use Rattle.dump_change.proofs.value_of.Reads as value-of-reads
 use Rattle.dump_reader.proofs.run.vector_run.Goals as goal
 
 -- src/run.rt:75:5
