@@ -1,11 +1,11 @@
 -- The lines of a cycle, checker by checker, from each checker's row and the row before. Assumes nothing.
-use Prim.Native.Nat.{ℕ, zero, suc, ◌+◌, ◌-◌, ◌*◌, ◌/◌, ◌%◌, ◌^◌, ◌<◌, ◌≤◌}
+use Prim.Native.Nat.{ℕ, zero, suc, ◌+◌, ◌-◌, ◌*◌, ◌/◌, ◌%◌, ◌^◌, ◌<◌}
 use mathlib.Core.Path.{◌≡◌, refl, sym, ap, ◌∙◌}
 use mathlib.Core.Bool.{Bool, true, false, cond, not, ◌&&◌, false≢true}
 use mathlib.Core.List.{List, [], ◌∷◌, ◌++◌, append-nil, append_assoc}
 use native.Mathlib.Omega.{arith}
 use lib.Dec.{eqb, ltb}
-use lib.ListN.{length, get_or}
+use lib.ListN.{get_or}
 use borrow.Author.Tests.{ne_eqb, ltb-true}
 use Rattle.dump.specs.Text.{bytes}
 use Rattle.first_failure.specs.Search.{row_at}
@@ -13,7 +13,7 @@ use Rattle.waves.specs.Text.{line, text, decimal, each}
 use Rattle.waves.specs.Waves.{name_of, name, value_at, changed, change_line, falls, rises, cycle_lines}
 use Rattle.waves.specs.Answer.{only_marks}
 use Rattle.waves.proofs.Each.{each_append, each_same, text-append, text-each}
-use Rattle.waves_lines.specs.Lines.{value_line, mark_line, marks_text, row_before}
+use Rattle.waves_lines.specs.Lines.{mark_line, marks_text, row_before}
 
 -- ROWS of marks
 both : (a b : Bool) → a && b ≡ true → (a ≡ true) × (b ≡ true)

@@ -1,17 +1,15 @@
 -- How long names and lines are, and that a row and the row before give the lines of the definition. Assumes nothing.
-use Prim.Native.Nat.{ℕ, zero, suc, ◌+◌, ◌-◌, ◌*◌, ◌/◌, ◌%◌, ◌^◌, ◌<◌, ◌≤◌}
-use mathlib.Core.Path.{◌≡◌, refl, sym, ap, ◌∙◌}
-use mathlib.Core.Bool.{Bool, true, false, cond}
-use mathlib.Core.List.{List, [], ◌∷◌, ◌++◌, append-nil, append_assoc}
+use Prim.Native.Nat.{ℕ, zero, suc, ◌+◌, ◌*◌, ◌/◌, ◌%◌, ◌^◌, ◌<◌}
+use mathlib.Core.Path.{◌≡◌, refl, ap, ◌∙◌}
+use mathlib.Core.List.{List, [], ◌++◌, append-nil, append_assoc}
 use native.Mathlib.Omega.{arith}
-use lib.Dec.{eqb}
-use lib.ListN.{length, get_or, length-append}
+use lib.ListN.{length, length-append}
 use borrow.Author.Tests.{eq-eqb, ne_eqb}
 use Rattle.waves.specs.Text.{line, text, decimal, each}
 use Rattle.dump.specs.Text.{bytes}
 use Rattle.waves.specs.Waves.{name_of, name, declaration, wire_line, opening, closing, header}
 use Rattle.waves.proofs.Each.{each_same, text-append, text-each}
-use Rattle.waves_lines.specs.Lines.{value_line, mark_line, marks_text, row_before}
+use Rattle.waves_lines.specs.Lines.{value_line, mark_line, marks_text}
 
 pub name-length : (checker mark : ℕ) → length (name_of checker mark) ≡ length (decimal checker) + length (decimal mark) + 2
 name-length checker mark = simp length-append (omega arith)

@@ -1,5 +1,5 @@
 -- `waves_lines::change::put_marks` meets its contract: behind i turns the lines of the marks from 2^i on are left. Assumes nothing.
-use Prim.Native.Nat.{suc, ◌+◌, ◌-◌, ◌<◌}
+use Prim.Native.Nat.{suc, ◌-◌}
 use mathlib.Core.Path.{ap}
 use native.Mathlib.Numerals.{add-one}
 use native.Mathlib.Omega.{arith}

@@ -1,5 +1,5 @@
 -- `waves_lines::header::put_header` meets its contract: behind j turns the lines of the wires from j on and the end are left. Assumes nothing.
-use Prim.Native.Nat.{ℕ, suc, ◌+◌, ◌-◌, ◌*◌, ◌<◌, ◌≤◌}
+use Prim.Native.Nat.{ℕ, suc, ◌-◌, ◌*◌, ◌<◌, ◌≤◌}
 use mathlib.Core.Path.{◌≡◌, refl, sym, ap, ◌∙◌}
 use mathlib.Core.List.{List, ◌++◌, append-nil, append_assoc}
 use native.Mathlib.Numerals.{add-one}
@@ -8,7 +8,7 @@ use lib.ListN.{length, length-append}
 use Rattle.waves.specs.Text.{text, each}
 use Rattle.waves.specs.Waves.{header}
 use Rattle.waves.proofs.Each.{each_first, each_none}
-use Rattle.waves_put.proofs.Putting.{Putting, putting-none, putting-length, putting-all, putting-room, putting-more, put-length}
+use Rattle.waves_put.proofs.Putting.{putting-none, putting-all, putting-room, putting-more, put-length}
 use Rattle.waves_lines.proofs.Lines.{wire_text, opened, closed, header-parts}
 use Rattle.waves_lines.proofs.header.put_header.Goals as goal
 

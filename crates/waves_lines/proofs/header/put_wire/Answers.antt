@@ -1,8 +1,7 @@
 -- `waves_lines::header::put_wire` meets its contract: five parts, one behind the other. Assumes nothing.
-use Prim.Native.Nat.{ℕ, ◌+◌, ◌*◌, ◌/◌, ◌%◌, ◌^◌, ◌<◌}
+use Prim.Native.Nat.{ℕ, ◌*◌, ◌/◌, ◌%◌, ◌^◌, ◌<◌}
 use mathlib.Core.Path.{◌≡◌}
 use native.Mathlib.Omega.{arith}
-use lib.ListN.{length}
 use Rattle.bits.proofs.Bits.{shifted_one}
 use Rattle.waves.specs.Waves.{name_of}
 use Rattle.waves_put.proofs.Putting.{put-length, put-more}

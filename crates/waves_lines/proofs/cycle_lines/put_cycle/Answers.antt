@@ -1,5 +1,5 @@
--- `waves_lines::cycle::put_cycle` meets its contract: behind k turns the lines of the checkers from k on and the end are left. Assumes nothing.
-use Prim.Native.Nat.{ℕ, suc, ◌+◌, ◌-◌, ◌*◌, ◌<◌, ◌≤◌}
+-- `waves_lines::cycle_lines::put_cycle` meets its contract: behind k turns the lines of the checkers from k on and the end are left. Assumes nothing.
+use Prim.Native.Nat.{ℕ, suc, ◌-◌, ◌<◌, ◌≤◌}
 use mathlib.Core.Path.{◌≡◌, refl, sym, ap, ◌∙◌}
 use mathlib.Core.List.{List, ◌++◌, append-nil, append_assoc}
 use native.Mathlib.Numerals.{add-one}
@@ -8,9 +8,9 @@ use lib.ListN.{length, length-append}
 use Rattle.waves.specs.Text.{text, each}
 use Rattle.waves.specs.Waves.{cycle_lines}
 use Rattle.waves.proofs.Each.{each_first, each_none}
-use Rattle.waves_put.proofs.Putting.{Putting, put-length, putting-none, putting-length, putting-all, putting-room, putting-more}
+use Rattle.waves_put.proofs.Putting.{put-length, putting-none, putting-all, putting-room, putting-more}
 use Rattle.waves_lines.proofs.Cycles.{checker_text, falling, rising, cycle-parts}
-use Rattle.waves_lines.proofs.cycle.put_cycle.Goals as goal
+use Rattle.waves_lines.proofs.cycle_lines.put_cycle.Goals as goal
 
 pub put_stamp-next-requires : goal.put_stamp-next-requires
 put_stamp-next-requires c =

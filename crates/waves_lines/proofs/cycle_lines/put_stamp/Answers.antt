@@ -1,9 +1,9 @@
--- `waves_lines::cycle::put_stamp` meets its contract: three parts, one behind the other. Assumes nothing.
+-- `waves_lines::cycle_lines::put_stamp` meets its contract: three parts, one behind the other. Assumes nothing.
 use native.Mathlib.Omega.{arith}
 use lib.ListN.{length-set, length-append}
 use Rattle.waves.specs.Text.{decimal}
 use Rattle.waves_put.proofs.Putting.{put_one, put-length, put-more}
-use Rattle.waves_lines.proofs.cycle.put_stamp.Goals as goal
+use Rattle.waves_lines.proofs.cycle_lines.put_stamp.Goals as goal
 
 pub put_number-end-requires : goal.put_number-end-requires
 put_number-end-requires c =
