@@ -1,5 +1,4 @@
 use Rattle.dump_reader.specs.Runs.{Goes}
-use Rattle.dump_reader.proofs.RunLaws as runs
 use mathlib.Core.Path.{◌≡◌}
 use Prim.Native.Nat.{◌≤◌, ◌-◌}
 use lib.ListN.{length}

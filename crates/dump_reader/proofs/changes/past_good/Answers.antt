@@ -1,8 +1,5 @@
-use Rattle.dump_reader.proofs.RunLaws as runs
 use mathlib.Core.Path.{refl, ◌∙◌, sym}
-use Prim.Native.Nat.{◌-◌}
 use native.Mathlib.Omega.{arith}
-use Rattle.dump_reader.proofs.Laws as laws
 use Rattle.dump_reader.proofs.changes.past_good.Goals as goal
 
 pub loop-c-init : goal.loop-c-init

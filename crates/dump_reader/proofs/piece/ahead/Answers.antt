@@ -1,5 +1,3 @@
-use Rattle.dump_reader.proofs.RunLaws as runs
-use Prim.Native.Nat.{◌-◌}
 use Rattle.dump_reader.proofs.piece.ahead.Goals as goal
 
 -- src/piece.rt:128:9

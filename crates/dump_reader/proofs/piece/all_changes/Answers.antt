@@ -1,5 +1,4 @@
 use Rattle.dump_reader.proofs.RunLaws as runs
-use Prim.Native.Nat.{◌-◌}
 use Rattle.dump_reader.proofs.piece.all_changes.Goals as goal
 
 -- src/piece.rt:107:1

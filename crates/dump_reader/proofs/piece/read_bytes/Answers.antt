@@ -1,6 +1,5 @@
 use Rattle.dump_reader.proofs.RunLaws as runs
 use mathlib.Core.Path.{refl, ◌∙◌, sym}
-use Prim.Native.Nat.{◌-◌}
 use native.Mathlib.Omega.{arith}
 use Rattle.dump_reader.proofs.piece.read_bytes.Goals as goal
 

@@ -1,5 +1,4 @@
 use Rattle.dump_reader.specs.Machine.{All}
-use Rattle.dump_reader.proofs.RunLaws as runs
 use Rattle.dump_reader.specs.Machine.{feed}
 use mathlib.Core.Path.{◌≡◌}
 use Prim.Native.Nat.{◌≤◌, ◌-◌}

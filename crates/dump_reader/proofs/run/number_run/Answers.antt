@@ -1,8 +1,6 @@
 use Rattle.dump_reader.proofs.RunLaws as runs
 use mathlib.Core.Path.{refl, ◌∙◌, sym}
-use Prim.Native.Nat.{◌-◌}
 use native.Mathlib.Omega.{arith}
-use Rattle.dump_reader.proofs.Laws as laws
 use Rattle.dump_reader.proofs.run.number_run.Goals as goal
 
 -- src/run.rt:51:5
