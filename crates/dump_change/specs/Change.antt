@@ -1,5 +1,5 @@
 -- One word of the changes, on what is kept of it and of those before. Assumes nothing.
-use Rattle.std.specs.Prelude.{Bool, true, false, cond, List, [], ◌∷◌, ℕ, zero, suc, ◌+◌, ◌*◌, ◌/◌, ◌%◌, ◌^◌, eqb, ltb, length, get_or, set}
+use Rattle.std.specs.Prelude.{Bool, false, cond, List, [], ◌∷◌, ℕ, zero, suc, ◌+◌, ◌*◌, ◌/◌, ◌%◌, ◌^◌, eqb, ltb, length, get_or, set}
 use Rattle.std.specs.Int.Bits.{bit_or}
 use Rattle.dump.specs.Changes.{value_of}
 use Rattle.dump_words.specs.declared.text.Text.{Text}

@@ -1,7 +1,7 @@
 // The changes of a dump and its samples: what is known between two words, and one function for each word that may be due.
 #![tactic(auto)]
 
-mod bits;
+mod digits;
 mod dollar;
 mod sample;
 mod stamp;

@@ -2,7 +2,7 @@
 ghost use Rattle.std.specs.Prelude.{◌≡◌, ◌≤◌, length};
 ghost use Rattle.dump_change.specs.Change.{text_wave, text_store, change_wave, change_store, change_frames, code_wave, code_store, word_wave, word_store, word_frames};
 
-use crate::bits::{on_real_code, on_scalar, on_vector_code};
+use crate::digits::{on_real_code, on_scalar, on_vector_code};
 use crate::dollar::{on_comment, on_dollar, on_real, on_vector, value_of};
 use crate::stamp::on_stamp;
 use crate::wave::{Wave, wave_at};

@@ -1,5 +1,5 @@
 -- One word of the declarations, on what is kept of it and of those before. Assumes nothing.
-use Rattle.std.specs.Prelude.{Bool, true, false, cond, not, ◌&&◌, ◌||◌, List, [], ◌∷◌, ℕ, suc, ◌+◌, ◌-◌, eqb, ltb, get_or, set}
+use Rattle.std.specs.Prelude.{Bool, true, false, cond, not, List, [], ◌∷◌, ℕ, suc, ◌+◌, ◌-◌, eqb, ltb, get_or, set}
 use Rattle.dump.specs.Ranges.{distance}
 use Rattle.dump_words.specs.declared.text.Text.{Text}
 use Rattle.dump_words.specs.declared.number.Number.{Number}

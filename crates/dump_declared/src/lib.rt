@@ -1,3 +1,2 @@
 // One word of the declarations, on what is kept, against one word of the definition: claims, with no code.
 #![tactic(auto)]
-

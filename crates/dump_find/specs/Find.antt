@@ -1,5 +1,5 @@
 -- The place of a code, by a hint that is checked or by a search. Assumes nothing.
-use Rattle.std.specs.Prelude.{Bool, true, false, cond, ◌&&◌, List, ℕ, ◌+◌, ◌*◌, ◌/◌, ◌%◌, ◌^◌, eqb, ltb, get_or, take}
+use Rattle.std.specs.Prelude.{cond, List, ℕ, ◌+◌, ◌*◌, ◌/◌, ◌%◌, ◌^◌, eqb, ltb, get_or, take}
 use Rattle.dump.specs.Declarations.{index_of}
 
 -- where the hint of a code stands

@@ -1,14 +1,14 @@
 -- Laws that the proofs of the values cite. Assumes nothing.
-use mathlib.Core.Path.{◌≡◌, refl, ◌∙◌, sym, ap, ap₂}
-use mathlib.Core.Bool.{Bool, true, false, cond}
+use mathlib.Core.Path.{◌≡◌, refl, ◌∙◌, sym}
+use mathlib.Core.Bool.{true, false}
 use mathlib.Core.List.{List}
-use Prim.Native.Nat.{ℕ, zero, suc, ◌+◌, ◌-◌, ◌*◌, ◌%◌, ◌^◌, ◌<◌, ◌≤◌}
+use Prim.Native.Nat.{ℕ, suc, ◌+◌, ◌-◌, ◌*◌, ◌%◌, ◌^◌, ◌<◌, ◌≤◌}
 use native.Mathlib.Omega.{arith}
 use native.Mathlib.Nat.{mod-eq_of_lt, pow-le-pow_right, one-mul, lt_of_le_of_lt}
-use lib.Dec.{lit<, lit≤}
-use lib.ListN.{length, get_or, set, length-set}
-use borrow.Author.Tests.{lt-ltb, le-ltb, eq-eqb, ne_eqb}
-use Rattle.dump_values.specs.Values.{with_bit, put_wire, put_at, change_entry, change_from, span_start, span_end, bits_changed, good_entry, good_from, table_good, connect_entry, connect_from}
+use lib.Dec.{lit<}
+use lib.ListN.{get_or}
+use borrow.Author.Tests.{eq-eqb, ne_eqb}
+use Rattle.dump_values.specs.Values.{change_entry, change_from, span_start, span_end, bits_changed, good_entry, good_from, table_good, connect_entry, connect_from}
 
 pub one_shifted : (i : ℕ) → i < 32 → 1 * 2 ^ i % 2 ^ 64 ≡ 2 ^ i
 one_shifted i h =

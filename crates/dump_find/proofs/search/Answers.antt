@@ -1,6 +1,5 @@
 use native.Mathlib.Nat.{zero-add}
 use mathlib.Core.Path.{sym}
-use Prim.Native.Nat.{◌-◌}
 use native.Mathlib.Omega.{arith}
 use Rattle.dump_find.proofs.Laws as laws
 use Rattle.dump_find.proofs.search.Goals as goal

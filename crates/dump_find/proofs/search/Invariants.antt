@@ -2,7 +2,6 @@ use Rattle.dump.specs.Declarations.{index_of}
 use mathlib.Core.Path.{◌≡◌}
 use Prim.Native.Nat.{◌≤◌, ◌+◌, ◌-◌}
 use lib.ListN.{take, drop}
-use Rattle.dump_find.proofs.Laws as laws
 use Rattle.dump_find.proofs.search.Given as goal
 
 abbrev pub invariant-loop-i : goal.invariant-loop-i

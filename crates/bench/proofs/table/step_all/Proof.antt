@@ -51,12 +51,12 @@ use Rattle.rules.specs.contracts.config.Config as C
 use Rattle.rules.proofs.config.Config.TheLaws as C'
 use Rattle.one_checker.specs.One.{stepped_words, stepped_rows}
 use Rattle.bench.specs.Bench.{checker_at, Steppable}
-use Rattle.bench.proofs.Steps.{words_to, rows_to, words-length, rows-length, step-asks, stepped-all}
+use Rattle.bench.proofs.Steps.{words_to, rows_to, words_length, rows_length, step-asks, stepped-all}
 use Rattle.bench.proofs.Elements.{table_ty, Upto, Nearer, Nearer-wf, holds, empty, Lies, typed, made, place-fits, opens-checker, shuts-checker}
 use Rattle.bench.proofs.Again.{at, LentAgain, lends_again, comes_back}
 use Rattle.one_checker.specs.contracts.step_one as step-one
 use Rattle.one_checker.proofs.step_one.Symbol as step-one-def
-use Rattle.one_checker.proofs.step_one.Symbol.{name as #one-checker·checker·step-one}
+use Rattle.one_checker.proofs.step_one.Symbol.{name as #for_one_checker·checker·step-one}
 use Rattle.one_checker.proofs.step_one.Met as step-one-thm
 use Rattle.bench.specs.contracts.table.step_all.Key.{name as #bench·table·step-all}
 use Rattle.bench.specs.contracts.table.step_all as step-all
@@ -121,10 +121,10 @@ module _ {M : Type 1} {𝓤 : Ura M} (𝓛 : Logic 𝓤) (mem : Memory → SProp
   rs k = rows_to t.now f.now w.now r.now k
 
   ws-length : (k : ℕ) → length (ws k) ≡ length w.now
-  ws-length = words-length t.now f.now w.now r.now
+  ws-length = words_length t.now f.now w.now r.now
 
   rs-length : (k : ℕ) → length (rs k) ≡ length r.now
-  rs-length = rows-length t.now f.now w.now r.now
+  rs-length = rows_length t.now f.now w.now r.now
 
   -- what the four slices own, words and rows at any list
   abbrev OwnT : Item 𝓤
@@ -189,7 +189,7 @@ module _ {M : Type 1} {𝓤 : Ura M} (𝓛 : Logic 𝓤) (mem : Memory → SProp
       nothing ! $ move ! (4 ∷ 0 ∷ []) $ fjoin ! $ move ! (3 ∷ 0 ∷ []) $ fjoin ! $ move ! (2 ∷ 0 ∷ []) $ fjoin ! $ move ! (1 ∷ 0 ∷ []) $ fjoin ! $ frame ! $
       feq_i ! (List Val) (vunit ∷ []) (vunit ∷ []) refl $ done !
 
-  module _ (rt : Room C.the_row n) (rf : Room u32 (length f.now)) (rw : Room u64 (length w.now)) (rr : Room u32 (length r.now)) (ok : Steppable t.now f.now w.now r.now) (𝓣 : Tables 𝓤 H) (known : Triple 𝓤 (𝓣.C #one-checker·checker·step-one) (StepOne 𝓛 mem run)) where
+  module _ (rt : Room C.the_row n) (rf : Room u32 (length f.now)) (rw : Room u64 (length w.now)) (rr : Room u32 (length r.now)) (ok : Steppable t.now f.now w.now r.now) (𝓣 : Tables 𝓤 H) (known : Triple 𝓤 (𝓣.C #for_one_checker·checker·step-one) (StepOne 𝓛 mem run)) where
     module _ (l₀ l₁ l₂ l₃ l₄ l₅ l₆ l₇ l₈ l₉ l₁₀ l₁₁ l₁₂ l₁₃ l₁₄ l₁₅ : ℕ) where
       abbrev En : Env 𝓤 H
       En = (ty_unit, l₀) ∷ ((table_ty (named 0)), l₁) ∷ (frames_ty, l₂) ∷ (words_ty (named 2), l₃) ∷ (rows_ty (named 3), l₄) ∷ (ty_int w64, l₅) ∷ (ty_int w64, l₆) ∷ (ty_bool, l₇) ∷ (ty_unit, l₈) ∷ (ty_int w64, l₉) ∷ (ty_ptr, l₁₀) ∷ (C'.mir, l₁₁)
@@ -302,7 +302,7 @@ module _ {M : Type 1} {𝓤 : Ura M} (𝓛 : Logic 𝓤) (mem : Memory → SProp
         move ! (7 ∷ 3 ∷ 6 ∷ 2 ∷ 5 ∷ 1 ∷ 4 ∷ 0 ∷ []) $
         first ! $ blocks ! $ loops ! 𝓣 (Nearer n) (Nearer-wf n) (At l₀ l₁ l₂ l₃ l₄ l₅ l₆ l₇ l₈ l₉ l₁₀ l₁₁ l₁₂ l₁₃ l₁₄ l₁₅) (turns l₀ l₁ l₂ l₃ l₄ l₅ l₆ l₇ l₈ l₉ l₁₀ l₁₁ l₁₂ l₁₃ l₁₄ l₁₅) (0, zero-le)))))))))))))))))
 
-module _ {M : Type 1} {𝓤 : Ura M} (𝓛 : Logic 𝓤) (mem : Memory → SProp 𝓤) (run : Routine → Fun 𝓤) (𝓣 : Tables 𝓤 𝓛.H) (known : Triple 𝓤 (𝓣.C #one-checker·checker·step-one) (StepOne 𝓛 mem run)) where
+module _ {M : Type 1} {𝓤 : Ura M} (𝓛 : Logic 𝓤) (mem : Memory → SProp 𝓤) (run : Routine → Fun 𝓤) (𝓣 : Tables 𝓤 𝓛.H) (known : Triple 𝓤 (𝓣.C #for_one_checker·checker·step-one) (StepOne 𝓛 mem run)) where
   open 𝓛 use {H}
 
   step-all-walks : Walks 𝓛 step-all.ended stayed (WpFn 𝓤 H 𝓣.C 𝓣.Λ code.function) (step-all.clauses 𝓛 mem run)
@@ -324,4 +324,4 @@ step-all-spec 𝓤 𝓛 𝓜 𝓡 =
     entered 𝓤 𝓛.H (triple_of 𝓛 step-all.signature (step-all.spec 𝓛 𝓜.mem 𝓡.run))
     (tables 𝓤 𝓛.H 𝓜 𝓡 code.env).C (tables 𝓤 𝓛.H 𝓜 𝓡 code.env).Λ #bench·table·step-all code.function (code.unfolded 𝓤 𝓛.H 𝓜 𝓡)
     (step-all-meets 𝓛 𝓜.mem 𝓡.run (tables_of 𝓤 𝓛.H 𝓜 (tables 𝓤 𝓛.H 𝓜 𝓡 code.env))
-    (cited 𝓤 𝓛.H (StepOne 𝓛 𝓜.mem 𝓡.run) 𝓜 𝓡 code.env #one-checker·checker·step-one step-one-def.routine code.calls-one-checker::step-one (step-one-thm.met 𝓤 𝓛 𝓜 𝓡)))
+    (cited 𝓤 𝓛.H (StepOne 𝓛 𝓜.mem 𝓡.run) 𝓜 𝓡 code.env #for_one_checker·checker·step-one step-one-def.routine code.calls-one-checker::step-one (step-one-thm.met 𝓤 𝓛 𝓜 𝓡)))

@@ -55,7 +55,7 @@ use Rattle.bench.proofs.Tested.{tested_to, tested-all}
 use Rattle.bench.proofs.Elements.{tail, table_ty, Lies, typed, made, place-fits, Lent, opens-checker, shuts-checker}
 use Rattle.one_checker.specs.contracts.test_one as one
 use Rattle.one_checker.proofs.test_one.Symbol as one_def
-use Rattle.one_checker.proofs.test_one.Symbol.{name as #one-checker·checker·test-one}
+use Rattle.one_checker.proofs.test_one.Symbol.{name as #for_one_checker·checker·test-one}
 use Rattle.one_checker.proofs.test_one.Met as one-thm
 use Rattle.bench.specs.contracts.table.test_all.Key.{name as #bench·table·test-all}
 use Rattle.bench.specs.contracts.table.test_all as all
@@ -154,7 +154,7 @@ module _ {M : Type 1} {𝓤 : Ura M} (𝓛 : Logic 𝓤) (mem : Memory → SProp
   Nearer-wf : WellFounded Nearer
   Nearer-wf = InvImage.wf (λ (i : Upto). n - i.0) lt-wf_rel.wf
 
-  module _ (𝓣 : Tables 𝓤 H) (known : Triple 𝓤 (𝓣.C #one-checker·checker·test-one) (One 𝓛 mem run)) where
+  module _ (𝓣 : Tables 𝓤 H) (known : Triple 𝓤 (𝓣.C #for_one_checker·checker·test-one) (One 𝓛 mem run)) where
     module _ (l₀ l₁ l₂ l₃ l₄ l₅ l₆ l₇ l₈ l₉ : ℕ) where
       abbrev words : Ty
       words = slice_ty (ty_ref (named 1) imm (ty_int w64))
@@ -241,14 +241,14 @@ module _ {M : Type 1} {𝓤 : Ura M} (𝓛 : Logic 𝓤) (mem : Memory → SProp
 module _ {M : Type 1} {𝓤 : Ura M} (𝓛 : Logic 𝓤) (mem : Memory → SProp 𝓤) (run : Routine → Fun 𝓤) where
   open 𝓛 use {H}
 
-  test-all-walks : (𝓣 : Tables 𝓤 H) → Triple 𝓤 (𝓣.C #one-checker·checker·test-one) (One 𝓛 mem run) → Walks 𝓛 all.ended stayed (WpFn 𝓤 H 𝓣.C 𝓣.Λ code.function) (all.clauses 𝓛 mem run)
+  test-all-walks : (𝓣 : Tables 𝓤 H) → Triple 𝓤 (𝓣.C #for_one_checker·checker·test-one) (One 𝓛 mem run) → Walks 𝓛 all.ended stayed (WpFn 𝓤 H 𝓣.C 𝓣.Λ code.function) (all.clauses 𝓛 mem run)
   test-all-walks 𝓣 known = walked 𝓛 all.ended stayed (all.clauses 𝓛 mem run) (WpFn 𝓤 H 𝓣.C 𝓣.Λ code.function)
       (λ κs. (shr_slice_vals, (shr_slice_vals, tt))) (λ κs. (shr_slice_Tells (named 0) κs.0 C.the_row, (shr_slice_Tells (named 1) κs.1.0 u64, tt)))
       (λ κs qs bounds a g are. needs 𝓤 ((length a.1.0.now ≡ length a.0.now) × (length a.0.now ≤ 64)) _ (λ asks.
       walk 𝓛 mem run κs.0 κs.1.0 qs.0 qs.1.0 a.0 a.1.0 asks.0 asks.1 are.0.0.1 are.1.0.0.1 𝓣 known))
 
 test-all-meets : {M : Type 1} {𝓤 : Ura M} (𝓛 : Logic 𝓤) → (mem : Memory → SProp 𝓤) (run : Routine → Fun 𝓤) (𝓣 : Tables 𝓤 𝓛.H)
-    → Triple 𝓤 (𝓣.C #one-checker·checker·test-one) (One 𝓛 mem run)
+    → Triple 𝓤 (𝓣.C #for_one_checker·checker·test-one) (One 𝓛 mem run)
     → Meets 𝓛 all.signature (WpFn 𝓤 𝓛.H 𝓣.C 𝓣.Λ code.function) (all.spec 𝓛 mem run)
 test-all-meets {𝓤 = 𝓤} 𝓛 mem run 𝓣 known =
     walk_Meets 𝓛 all.ended stayed (Goes-none_slice 𝓛 2 (0 ∷ []) tt (plain (λ _. C.the_row)) yes, (Goes-none_slice 𝓛 2 (1 ∷ []) tt (plain (λ _. u64)) yes, tt)) (all.clauses 𝓛 mem run)
@@ -260,4 +260,4 @@ test-all-spec 𝓤 𝓛 𝓜 𝓡 =
     entered 𝓤 𝓛.H (triple_of 𝓛 all.signature (all.spec 𝓛 𝓜.mem 𝓡.run))
     (tables 𝓤 𝓛.H 𝓜 𝓡 code.env).C (tables 𝓤 𝓛.H 𝓜 𝓡 code.env).Λ #bench·table·test-all code.function (code.unfolded 𝓤 𝓛.H 𝓜 𝓡)
     (test-all-meets 𝓛 𝓜.mem 𝓡.run (tables_of 𝓤 𝓛.H 𝓜 (tables 𝓤 𝓛.H 𝓜 𝓡 code.env))
-    (cited 𝓤 𝓛.H (One 𝓛 𝓜.mem 𝓡.run) 𝓜 𝓡 code.env #one-checker·checker·test-one one_def.routine code.calls-one-checker::test-one (one-thm.met 𝓤 𝓛 𝓜 𝓡)))
+    (cited 𝓤 𝓛.H (One 𝓛 𝓜.mem 𝓡.run) 𝓜 𝓡 code.env #for_one_checker·checker·test-one one_def.routine code.calls-one-checker::test-one (one-thm.met 𝓤 𝓛 𝓜 𝓡)))

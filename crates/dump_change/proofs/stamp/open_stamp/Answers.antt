@@ -1,7 +1,6 @@
 use lib.ListN.{length-set}
 use Rattle.dump_change.proofs.Laws as laws
 use mathlib.Core.Path.{refl, ◌∙◌, sym}
-use Prim.Native.Nat.{◌-◌}
 use native.Mathlib.Omega.{arith}
 use Rattle.dump_change.proofs.stamp.open_stamp.Goals as goal
 

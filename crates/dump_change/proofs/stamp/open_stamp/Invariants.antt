@@ -1,4 +1,3 @@
-use Rattle.dump_change.proofs.Laws as laws
 use Rattle.dump_change.specs.Change.{open_from}
 use mathlib.Core.Path.{◌≡◌}
 use Prim.Native.Nat.{◌-◌}

@@ -10,7 +10,7 @@ loop-e-init c = (c.requires.0, refl)
 
 -- src/span.rt:58:5
 pub loop-e-preserved : goal.loop-e-preserved
-loop-e-preserved c = (c.change_entry.auto.0 ∙ c.loop-e.invariant.0, c.loop-e.invariant.1 ∙ laws.change-more _ _ _ _ _ _ c.loop-e-test.true ∙ ap (λ s. change_from s c.args.digits.now c.args.count c.args.x (c.loop-e.e + 1) (c.span_end-to.result - (c.loop-e.e + 1))) (sym c.change_entry.ensures))
+loop-e-preserved c = (c.change_entry.auto.store ∙ c.loop-e.invariant.0, c.loop-e.invariant.1 ∙ laws.change-more _ _ _ _ _ _ c.loop-e-test.true ∙ ap (λ s. change_from s c.args.digits.now c.args.count c.args.x (c.loop-e.e + 1) (c.span_end-to.result - (c.loop-e.e + 1))) (sym c.change_entry.ensures))
 
 -- src/span.rt:51:1
 pub returns : goal.returns

@@ -1,11 +1,6 @@
-use Prim.Native.Nat.{◌-◌}
 use Rattle.dump_values.specs.Values.{digit_of}
 use borrow.Author.Tests.{le-ltb, lt-ltb}
-use native.Mathlib.Omega.{arith}
 use Rattle.dump_values.proofs.span.digit_of.Goals as goal
-
-pub overflow_cast-result : goal.overflow_cast-result
-overflow_cast-result c = omega (arith, c.shared_slice_known-1.given (c.args.count - 1 - c.args.k))
 
 pub returns-then-k-count : goal.returns-then-k-count
 unfolding digit_of
@@ -14,9 +9,6 @@ returns-then-k-count c = simp (lt-ltb _ _ c.if-k-count.true)
 pub returns-then-digits-lt2 : goal.returns-then-digits-lt2
 unfolding digit_of
 returns-then-digits-lt2 c = simp (lt-ltb _ _ c.if-digits-lt2.true, le-ltb _ _ c.if-k-count.false)
-
-pub overflow_cast-result-2 : goal.overflow_cast-result-2
-overflow_cast-result-2 c = omega (arith, c.shared_slice_known-3-1.given 0)
 
 pub returns : goal.returns
 unfolding digit_of

@@ -1,4 +1,3 @@
-use Rattle.dump_values.proofs.Laws as laws
 use Rattle.dump_values.specs.Values.{connect_from}
 use mathlib.Core.Path.{◌≡◌}
 use Prim.Native.Nat.{◌-◌}
@@ -6,7 +5,7 @@ use lib.ListN.{length}
 use Rattle.dump_values.proofs.table.connect.Given as goal
 
 abbrev pub invariant-loop-e : goal.invariant-loop-e
-invariant-loop-e l = (length l.store ≡ 8468) × (connect_from l.n l.initial.store 0 129 ≡ connect_from l.store l.initial.store l.e (129 - l.e))
+invariant-loop-e l = (length l.store ≡ 8468) × (connect_from l.initial.store l.n 0 129 ≡ connect_from l.store l.n l.e (129 - l.e))
 
 abbrev pub decreases-loop-e : goal.decreases-loop-e
 decreases-loop-e l = 129 - l.e

@@ -8,7 +8,7 @@ pub bounds-store-i-3 : goal.bounds-store-i-3
 bounds-store-i-3 c = simp length-set (omega (arith, c.requires.0, c.requires.1, c.requires.2))
 
 pub shape_of-store : goal.shape_of-store
-shape_of-store c = c.put_value.auto.0 ∙ simp length-set
+shape_of-store c = c.put_value.auto.store ∙ simp length-set
 
 pub returns : goal.returns
 unfolding connected_entry

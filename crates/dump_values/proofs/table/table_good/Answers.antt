@@ -1,6 +1,5 @@
 use Rattle.dump_values.proofs.Laws as laws
 use mathlib.Core.Path.{refl, ◌∙◌, sym}
-use Prim.Native.Nat.{◌-◌}
 use native.Mathlib.Omega.{arith}
 use Rattle.dump_values.proofs.table.table_good.Goals as goal
 

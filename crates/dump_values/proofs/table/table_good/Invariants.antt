@@ -1,4 +1,3 @@
-use Rattle.dump_values.proofs.Laws as laws
 use Rattle.dump_values.specs.Values.{good_from}
 use mathlib.Core.Path.{◌≡◌}
 use Prim.Native.Nat.{◌≤◌, ◌-◌}

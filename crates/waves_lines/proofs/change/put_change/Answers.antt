@@ -21,13 +21,13 @@ pub bounds-out-end : goal.bounds-out-end
 bounds-out-end c =
     let a = c.args in
     let named = c.put_name-end in
-    omega (arith, c.requires.3, value-length a.value a.checker a.mark, length-set a.out.now a.at (48 + a.value), named.ensures.next-is, put-length named.ensures)
+    omega (arith, c.requires.3, value-length a.value a.checker a.mark, length-set a.out.now a.at (48 + a.value), named.ensures.next_is, put-length named.ensures)
 
 pub overflow_add-result : goal.overflow_add-result
 overflow_add-result c =
     let a = c.args in
     let named = c.put_name-end in
-    omega (arith, c.requires.3, value-length a.value a.checker a.mark, named.ensures.next-is)
+    omega (arith, c.requires.3, value-length a.value a.checker a.mark, named.ensures.next_is)
 
 pub returns : goal.returns
 unfolding line

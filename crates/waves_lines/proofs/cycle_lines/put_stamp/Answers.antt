@@ -14,7 +14,7 @@ pub put_text-requires : goal.put_text-requires
 put_text-requires c =
     let a = c.args in
     let number = c.put_number-end in
-    omega (arith, c.requires.1, length-append (decimal a.n) a.follows.now, length-set a.out.now a.at 35, number.ensures.next-is, put-length number.ensures)
+    omega (arith, c.requires.1, length-append (decimal a.n) a.follows.now, length-set a.out.now a.at 35, number.ensures.next_is, put-length number.ensures)
 
 pub returns : goal.returns
 returns c =

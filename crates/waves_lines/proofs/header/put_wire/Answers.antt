@@ -22,14 +22,14 @@ pub put_name-blank-requires : goal.put_name-blank-requires
 put_name-blank-requires c =
     let j = c.args.j in
     let code = c.put_text-code.ensures in
-    rw (shifted j) (omega arith, below j, omega (arith, c.requires.1, wire-length j, code.next-is, put-length code))
+    rw (shifted j) (omega arith, below j, omega (arith, c.requires.1, wire-length j, code.next_is, put-length code))
 
 pub put_text-name-requires : goal.put_text-name-requires
 put_text-name-requires c =
     let j = c.args.j in
     let code = c.put_text-code.ensures in
     let blank = rw (shifted j) at c.put_name-blank.ensures in
-    omega (arith, c.requires.1, wire-length j, code.next-is, put-length code, blank.next-is, put-length blank)
+    omega (arith, c.requires.1, wire-length j, code.next_is, put-length code, blank.next_is, put-length blank)
 
 pub put_name-end-requires : goal.put_name-end-requires
 put_name-end-requires c =
@@ -37,7 +37,7 @@ put_name-end-requires c =
     let code = c.put_text-code.ensures in
     let blank = rw (shifted j) at c.put_name-blank.ensures in
     let name = c.put_text-name.ensures in
-    rw (shifted j) (omega arith, below j, omega (arith, c.requires.1, wire-length j, code.next-is, put-length code, blank.next-is, put-length blank, name.next-is, put-length name))
+    rw (shifted j) (omega arith, below j, omega (arith, c.requires.1, wire-length j, code.next_is, put-length code, blank.next_is, put-length blank, name.next_is, put-length name))
 
 pub put_text-requires : goal.put_text-requires
 put_text-requires c =
@@ -46,7 +46,7 @@ put_text-requires c =
     let blank = rw (shifted j) at c.put_name-blank.ensures in
     let name = c.put_text-name.ensures in
     let end = rw (shifted j) at c.put_name-end.ensures in
-    omega (arith, c.requires.1, wire-length j, code.next-is, put-length code, blank.next-is, put-length blank, name.next-is, put-length name, end.next-is, put-length end)
+    omega (arith, c.requires.1, wire-length j, code.next_is, put-length code, blank.next_is, put-length blank, name.next_is, put-length name, end.next_is, put-length end)
 
 pub returns : goal.returns
 returns c =

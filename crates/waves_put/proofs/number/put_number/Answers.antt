@@ -19,7 +19,7 @@ put_pair-requires c =
     let first = c.put_small-hundreds in
     let h = c.if-n-lt100 in
     let n = c.args.n in
-    (omega arith, omega (arith, c.requires.1, first.ensures.next-is, put-length first.ensures, ap length (hundreds n h.false), length-append (decimal (n / 100)) (pair (n % 100))))
+    (omega arith, omega (arith, c.requires.1, first.ensures.next_is, put-length first.ensures, ap length (hundreds n h.false), length-append (decimal (n / 100)) (pair (n % 100))))
 
 pub shape_of-out-then-n-lt10000 : goal.shape_of-out-then-n-lt10000
 shape_of-out-then-n-lt10000 c = put-length c.put_pair.ensures ∙ put-length c.put_small-hundreds.ensures
@@ -40,7 +40,7 @@ put_small-highest-requires c =
 pub put_pair-hundreds-requires : goal.put_pair-hundreds-requires
 put_pair-hundreds-requires c =
     let first = c.put_small-highest in
-    (omega arith, omega (arith, c.requires.1, first.ensures.next-is, put-length first.ensures, parts c.args.n c.if-n-lt10000.false))
+    (omega arith, omega (arith, c.requires.1, first.ensures.next_is, put-length first.ensures, parts c.args.n c.if-n-lt10000.false))
 
 pub put_pair-requires-2 : goal.put_pair-requires-2
 put_pair-requires-2 c =
@@ -48,7 +48,7 @@ put_pair-requires-2 c =
     let first = c.put_small-highest in
     let big = c.if-n-lt10000.false in (
       omega arith,
-      omega (arith, c.requires.1, first.ensures.next-is, put-length first.ensures, second.ensures.next-is, put-length second.ensures, parts c.args.n big),
+      omega (arith, c.requires.1, first.ensures.next_is, put-length first.ensures, second.ensures.next_is, put-length second.ensures, parts c.args.n big),
     )
 
 pub shape_of-out : goal.shape_of-out

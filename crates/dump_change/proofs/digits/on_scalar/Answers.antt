@@ -1,7 +1,7 @@
 use Rattle.dump_change.specs.Change.{on_scalar, scalar_change, scalar_store}
 use mathlib.Core.Path.{sym}
 use borrow.Author.Tests.{le-ltb, lt-ltb, eq-eqb, ne_eqb}
-use Rattle.dump_change.proofs.bits.on_scalar.Goals as goal
+use Rattle.dump_change.proofs.digits.on_scalar.Goals as goal
 
 pub returns-then-t-lt2 : goal.returns-then-t-lt2
 unfolding on_scalar scalar_change scalar_store

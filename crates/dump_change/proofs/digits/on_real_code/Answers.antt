@@ -1,7 +1,7 @@
 use Rattle.dump_change.specs.Change.{on_real_code}
 use mathlib.Core.Path.{◌∙◌, sym}
 use borrow.Author.Tests.{le-ltb, lt-ltb}
-use Rattle.dump_change.proofs.bits.on_real_code.Goals as goal
+use Rattle.dump_change.proofs.digits.on_real_code.Goals as goal
 
 pub returns-then-t-gt8 : goal.returns-then-t-gt8
 unfolding on_real_code

@@ -2,7 +2,7 @@ use Rattle.dump_change.specs.Change.{on_vector_code, vector_change, vector_store
 use mathlib.Core.Path.{◌∙◌, sym}
 use borrow.Author.Tests.{le-ltb, lt-ltb, eq-eqb, ne_eqb}
 use native.Mathlib.Omega.{arith}
-use Rattle.dump_change.proofs.bits.on_vector_code.Goals as goal
+use Rattle.dump_change.proofs.digits.on_vector_code.Goals as goal
 
 pub returns-then-t-gt8 : goal.returns-then-t-gt8
 unfolding on_vector_code vector_change vector_store

@@ -1,6 +1,6 @@
 use Rattle.dump_change.specs.Change.{scalar_test}
 use borrow.Author.Tests.{le-ltb, lt-ltb, eq-eqb, ne_eqb}
-use Rattle.dump_change.proofs.bits.scalar_test.Goals as goal
+use Rattle.dump_change.proofs.digits.scalar_test.Goals as goal
 
 pub returns-then-plain-ne1 : goal.returns-then-plain-ne1
 unfolding scalar_test
