@@ -13,7 +13,7 @@ use Rattle.dump.specs.Load.{Answer, read, load, joined_frames, filled}
 use Rattle.dump_reader.specs.declared.state.Reader.{Reader}
 use Rattle.dump_reader.specs.Machine.{All, feed, finish}
 use Rattle.dump_load.specs.declared.answer.Loaded.{Loaded}
-use Rattle.dump_load.specs.Loading.{fits, refused_with, loaded_of, answered, first_reader, table_from, first_all, read_all}
+use Rattle.dump_load.specs.Loading.{fits, refused_with, loaded_of, answered, first_reader, table_from, read_all}
 
 -- the loop over the table: one more word, and none left
 module _ (store wires : List ℕ) (k : ℕ) where

@@ -1,8 +1,7 @@
 -- A load as a machine over bytes: its first state, and what it answers. Assumes nothing.
-use Rattle.std.specs.Prelude.{Bool, true, false, cond, ◌&&◌, List, [], ◌∷◌, ℕ, zero, suc, ◌+◌, ◌-◌, ◌/◌, ◌%◌, ◌^◌, eqb, leb, length, get_or, set, replicate}
-use Rattle.dump.specs.Load.{Answer, load}
+use Rattle.std.specs.Prelude.{Bool, false, cond, List, ℕ, zero, suc, ◌+◌, ◌-◌, ◌/◌, ◌%◌, ◌^◌, eqb, leb, length, get_or, set, replicate}
+use Rattle.dump.specs.Load.{Answer}
 use Rattle.dump_declare.specs.Declare as D
-use Rattle.dump_change.specs.declared.wave.Wave.{Wave}
 use Rattle.dump_reader.specs.declared.state.Reader.{Reader}
 use Rattle.dump_reader.specs.Machine.{All, no_word, place_of, refused, feed, finish}
 use Rattle.dump_load.specs.declared.answer.Loaded.{Loaded}

@@ -1,14 +1,14 @@
 -- Laws of whole words: what the loops over them do is what the machine does byte by byte. Assumes nothing.
 use mathlib.Core.Path.{◌≡◌, refl, ◌∙◌, sym, ap}
-use mathlib.Core.Bool.{Bool, true, false, cond}
+use mathlib.Core.Bool.{Bool, true, false}
 use mathlib.Core.List.{List, [], ◌∷◌}
-use Prim.Native.Nat.{ℕ, suc, ◌+◌, ◌-◌, ◌%◌, ◌<◌, ◌≤◌}
+use Prim.Native.Nat.{ℕ, suc, ◌+◌, ◌%◌, ◌<◌, ◌≤◌}
 use native.Mathlib.Omega.{arith}
 use native.Mathlib.Numerals.{add-one}
-use lib.Dec.{eqb, ltb, leb}
+use lib.Dec.{eqb, ltb}
 use lib.ListN.{length, get_or, set, drop}
 use lib.Seq.{drop-cons, drop-length}
-use borrow.Author.Tests.{le-leb, lt-leb, eq-eqb, ne_eqb, lt-ltb, le-ltb, ltb-true, ltb-false}
+use borrow.Author.Tests.{lt-leb, eq-eqb, ne_eqb, lt-ltb, le-ltb, ltb-true, ltb-false}
 use Rattle.dump.specs.Text.{blank}
 use Rattle.dump.specs.Changes.{value_of}
 use Rattle.dump_words.specs.declared.text.Text.{Text}
@@ -23,7 +23,7 @@ use Rattle.dump_change.specs.Change as C
 use Rattle.dump_reader.specs.declared.word.Word.{Word}
 use Rattle.dump_reader.specs.declared.state.Reader.{Reader}
 use Rattle.dump_reader.specs.declared.changes.Changes.{Changes}
-use Rattle.dump_reader.specs.Machine.{All, no_word, number_word, vector_word, text_word, with_word, place_of, refused, begun, vector_add, vector_digits, continued, continued_digits, new_line, end_change, end_word, closed_word, add_byte, lined, byte_step, step, feed}
+use Rattle.dump_reader.specs.Machine.{All, no_word, number_word, with_word, place_of, refused, begun, vector_add, vector_digits, continued, continued_digits, new_line, end_change, end_word, closed_word, add_byte, lined, byte_step, step, feed}
 use Rattle.dump_reader.specs.Runs.{text_of, vector_of, put, Gathers, open_word, amid, Goes, past_blank, begun_as, Due, Scalar, vectored, Vectored}
 use Rattle.dump_reader.proofs.Laws.{above-blanks, feed-refused}
 

@@ -1,5 +1,5 @@
 -- A reader of dumps as a machine over bytes: what it keeps of a word, what a word's end and the text's end do. Any state has a next one. Assumes nothing.
-use Rattle.std.specs.Prelude.{Bool, true, false, cond, not, ◌&&◌, ◌||◌, List, [], ◌∷◌, ℕ, suc, ◌+◌, ◌-◌, eqb, ltb, leb, set}
+use Rattle.std.specs.Prelude.{Bool, cond, ◌&&◌, List, [], ◌∷◌, ℕ, ◌+◌, ◌-◌, eqb, ltb, leb, set}
 use Rattle.dump.specs.Text.{blank}
 use Rattle.dump.specs.Changes.{value_of}
 use Rattle.dump_words.specs.declared.text.Text.{Text}

@@ -1,5 +1,5 @@
 -- Whole words at once: what the loops over them say of the machine, from one place of the bytes to another. Assumes nothing.
-use Rattle.std.specs.Prelude.{◌≡◌, Bool, true, false, cond, List, ℕ, ◌+◌, ◌-◌, ◌<◌, ◌≤◌, eqb, ltb, length, get_or, drop}
+use Rattle.std.specs.Prelude.{◌≡◌, false, cond, List, ℕ, ◌+◌, ◌-◌, ◌<◌, eqb, ltb, length, get_or, drop}
 use Rattle.dump.specs.Text.{blank}
 use Rattle.dump_words.specs.declared.text.Text.{Text}
 use Rattle.dump_words.specs.Gather.{no_text, no_number}
@@ -9,7 +9,7 @@ use Rattle.dump_change.specs.declared.wave.Wave.{Wave}
 use Rattle.dump_change.specs.Change as C
 use Rattle.dump_reader.specs.declared.word.Word.{Word}
 use Rattle.dump_reader.specs.declared.changes.Changes.{Changes}
-use Rattle.dump_reader.specs.Machine.{no_scan, no_word, text_word, number_word, vector_word, refused, with_word, begun, All, feed}
+use Rattle.dump_reader.specs.Machine.{no_scan, no_word, text_word, number_word, vector_word, refused, with_word, All, feed}
 
 abbrev pub text_of : Text → Word
 text_of t = record { class = 1; count = 0; wrong = 0; text = t; number = no_number; scan = no_scan }

@@ -1,2 +1,3 @@
 -- Laws of the lines of the waves.
 pub mod Lines
+pub mod Cycles

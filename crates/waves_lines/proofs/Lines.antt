@@ -1,15 +1,15 @@
 -- How long names and lines are, and that a row and the row before give the lines of the definition. Assumes nothing.
-use Prim.Native.Nat.{ℕ, zero, suc, ◌+◌, ◌-◌, ◌*◌, ◌/◌, ◌%◌, ◌^◌, ◌<◌, ◌≤◌}
-use mathlib.Core.Path.{◌≡◌, refl, sym, ap, ◌∙◌}
-use mathlib.Core.Bool.{Bool, true, false, cond}
-use mathlib.Core.List.{List, [], ◌∷◌, ◌++◌, append_assoc}
+use Prim.Native.Nat.{ℕ, zero, suc, ◌+◌, ◌*◌, ◌/◌, ◌%◌, ◌^◌, ◌<◌}
+use mathlib.Core.Path.{◌≡◌, refl, ap, ◌∙◌}
+use mathlib.Core.List.{List, [], ◌++◌, append-nil, append_assoc}
 use native.Mathlib.Omega.{arith}
-use lib.Dec.{eqb}
-use lib.ListN.{length, get_or, length-append}
+use lib.ListN.{length, length-append}
 use borrow.Author.Tests.{eq-eqb, ne_eqb}
-use Rattle.waves.specs.Text.{line, decimal, each}
-use Rattle.waves.specs.Waves.{name_of}
-use Rattle.waves_lines.specs.Lines.{value_line, mark_line, marks_text, row_before}
+use Rattle.waves.specs.Text.{line, text, decimal, each}
+use Rattle.dump.specs.Text.{bytes}
+use Rattle.waves.specs.Waves.{name_of, name, declaration, wire_line, opening, closing, header}
+use Rattle.waves.proofs.Each.{each_same, text-append, text-each}
+use Rattle.waves_lines.specs.Lines.{value_line, mark_line, marks_text}
 
 pub name-length : (checker mark : ℕ) → length (name_of checker mark) ≡ length (decimal checker) + length (decimal mark) + 2
 name-length checker mark = simp length-append (omega arith)
@@ -42,3 +42,47 @@ small-mark (suc (suc (suc zero))) h = omega arith
 small-mark (suc (suc (suc (suc zero)))) h = omega arith
 small-mark (suc (suc (suc (suc (suc zero))))) h = omega arith
 small-mark (suc (suc (suc (suc (suc (suc i)))))) h = absurd (omega arith)
+
+-- THE HEADER
+pub name-is : (j : ℕ) → name j ≡ name_of (j / 6) (2 ^ (j % 6))
+unfolding name
+name-is j = refl
+
+-- the line of a wire, part by part
+pub declaration-parts : (n : List ℕ) → line (declaration n) ≡ bytes "$var wire 1 " ++ (n ++ (bytes " " ++ (n ++ bytes " $end\n")))
+unfolding line
+declaration-parts n = refl
+
+pub declaration-length : (n : List ℕ) → length (line (declaration n)) ≡ length n + length n + 19
+declaration-length n = ap length (declaration-parts n) ∙ simp length-append (omega arith)
+
+pub wire-length : (j : ℕ) → length (line (declaration (name j))) ≡ length (name_of (j / 6) (2 ^ (j % 6))) + length (name_of (j / 6) (2 ^ (j % 6))) + 19
+wire-length j = declaration-length (name j) ∙ rw (name-is j) refl
+
+-- the text of wire j
+abbrev pub wire_text : ℕ → List ℕ
+wire_text j = line (declaration (name j))
+
+abbrev pub opened : List ℕ
+opened = bytes "$scope module marks $end\n$var wire 1 clk clk $end\n"
+
+abbrev pub closed : List ℕ
+closed = bytes "$upscope $end\n$enddefinitions $end\n"
+
+wires-text : (m : ℕ) → text (each wire_line 0 m) ≡ each wire_text 0 m
+unfolding text
+wires-text m = text-each wire_line 0 m ∙ each_same (λ j. text (wire_line j)) wire_text 0 0 m (λ i h. append-nil (wire_text (0 + i)))
+
+opening-text : text opening ≡ opened
+unfolding text line
+opening-text = refl
+
+closing-text : text closing ≡ closed
+unfolding text line
+closing-text = refl
+
+pub header-parts : (checkers : ℕ) → text (header checkers) ≡ opened ++ (each wire_text 0 (6 * checkers) ++ closed)
+unfolding header
+header-parts checkers =
+    text-append (opening ++ each wire_line 0 (6 * checkers)) closing
+    ∙ rw (text-append opening (each wire_line 0 (6 * checkers)), opening-text, wires-text (6 * checkers), closing-text) (append_assoc opened (each wire_text 0 (6 * checkers)) closed)

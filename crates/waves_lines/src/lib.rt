@@ -2,9 +2,9 @@
 #![tactic(auto)]
 
 mod change;
-mod cycle;
+mod cycle_lines;
 mod header;
 mod name;
 
-pub use cycle::put_cycle;
+pub use cycle_lines::put_cycle;
 pub use header::put_header;

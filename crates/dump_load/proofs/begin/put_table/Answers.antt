@@ -1,7 +1,6 @@
 use lib.ListN.{length-set}
 use Rattle.dump_load.proofs.Laws as laws
 use mathlib.Core.Path.{refl, ◌∙◌, sym}
-use Prim.Native.Nat.{◌-◌}
 use native.Mathlib.Omega.{arith}
 use Rattle.dump_load.proofs.begin.put_table.Goals as goal
 

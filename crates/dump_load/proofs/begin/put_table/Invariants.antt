@@ -1,4 +1,3 @@
-use Rattle.dump_load.proofs.Laws as laws
 use Rattle.dump_load.specs.Loading.{table_from}
 use mathlib.Core.Path.{◌≡◌}
 use Prim.Native.Nat.{◌-◌}

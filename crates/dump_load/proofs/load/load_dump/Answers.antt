@@ -10,7 +10,7 @@ read_dump-requires c = (c.if-wires-eq258.true, laws.fits-most _ (sym c.frames_fi
 
 pub returns-then-wires-eq258 : goal.returns-then-wires-eq258
 returns-then-wires-eq258 c =
-    let m = meets c.args.dump.now c.args.wires.now c.args.frames.now (bytes-at c.args.dump.now (λ i h. (c.shared_slice_known-1.given i).fits)) (omega (arith, c.well-formed)) c.if-wires-eq258.true (laws.fits-most _ (sym c.frames_fit.ensures ∙ c.if-frames_fit.true)) in
+    let m = meets c.args.dump.now c.args.wires.now c.args.frames.now (bytes-at c.args.dump.now (λ i h. (c.type_inv.dump i).fits)) (omega (arith, c.well_formed)) c.if-wires-eq258.true (laws.fits-most _ (sym c.frames_fit.ensures ∙ c.if-frames_fit.true)) in
     (laws.good-answer c.args.dump.now c.args.wires.now c.args.frames.now (sym c.frames_fit.ensures ∙ c.if-frames_fit.true) c.if-wires-eq258.true _ (c.read_dump.ensures.0 ∙ m.0), laws.good-frames c.args.dump.now c.args.wires.now c.args.frames.now (sym c.frames_fit.ensures ∙ c.if-frames_fit.true) c.if-wires-eq258.true _ (c.read_dump.ensures.1 ∙ m.1))
 
 pub returns-then-frames_fit : goal.returns-then-frames_fit

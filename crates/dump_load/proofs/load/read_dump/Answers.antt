@@ -5,7 +5,7 @@ use native.Mathlib.Omega.{arith}
 use Rattle.dump_load.proofs.load.read_dump.Goals as goal
 
 pub end_text-t-requires : goal.end_text-t-requires
-end_text-t-requires c = (c.read_bytes-s.auto.1.1.0 ∙ c.put_table.auto.0, c.read_bytes-s.auto.1.1.1.0, omega (arith, c.read_bytes-s.auto.1.1.1.1.0, c.requires.1))
+end_text-t-requires c = (c.read_bytes-s.auto.store ∙ c.put_table.auto.store, c.read_bytes-s.auto.digits, omega (arith, c.read_bytes-s.auto.frames, c.requires.1))
 
 pub returns : goal.returns
 unfolding answered read_all

@@ -1,5 +1,3 @@
-use Prim.Native.Nat.{◌-◌}
-use Rattle.dump_reader.proofs.RunLaws as runs
 use Rattle.dump_reader.specs.Runs.{begun_as}
 use Rattle.dump_reader.specs.Machine.{begun_change, begun}
 use borrow.Author.Tests.{eq-eqb, ne_eqb}

@@ -1,4 +1,3 @@
-use Prim.Native.Nat.{◌-◌}
 use Rattle.dump_reader.proofs.RunLaws as runs
 use mathlib.Core.Path.{refl, ◌∙◌, sym}
 use native.Mathlib.Omega.{arith}
@@ -14,7 +13,7 @@ pub scalar_good-requires : goal.scalar_good-requires
 scalar_good-requires c = (c.requires.0, c.requires.1)
 
 pub overflow_add-to : goal.overflow_add-to
-overflow_add-to c = omega (arith, c.if-to-bytes.false, c.well-formed)
+overflow_add-to c = omega (arith, c.if-to-bytes.false, c.well_formed)
 
 pub returns-then-scalar_good : goal.returns-then-scalar_good
 returns-then-scalar_good c = runs.for-digits _ _ _ _ _ _ _ (runs.scalar-whole _ _ (record { inside = c.requires.3; closed = c.if-c-ne0.false; going = omega (arith, c.if-wave-ne20.false); full = sym c.is_blank.ensures ∙ c.if-is_blank.false }) _ _ _ c.if-to-bytes.false c.text_run-run.ensures.0 (sym c.is_blank-2.ensures ∙ c.if-is_blank-2.true) _ _ _ _ (runs.at-change _ _ _ c.if-wave-ne20.false c.class_of-k.ensures c.if-k-eq2.false c.if-k-eq4.false) c.add_text-first.ensures c.text_run-run.ensures.2 (c.scalar_good.ensures.0 c.if-scalar_good.true) c.if-wave-ne20.false c.past_blank-then-scalar_good.ensures)

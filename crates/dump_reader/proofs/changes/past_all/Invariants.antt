@@ -1,10 +1,7 @@
 use Rattle.dump_reader.specs.Runs.{Goes}
-use Rattle.dump_reader.proofs.RunLaws as runs
 use mathlib.Core.Path.{◌≡◌}
 use Prim.Native.Nat.{◌≤◌, ◌-◌}
 use lib.ListN.{length}
-use Rattle.dump_reader.proofs.changes.past_one.Reads as past-one-reads
-use Rattle.dump_reader.proofs.changes.past_good.Reads as past-good-reads
 use Rattle.dump_reader.proofs.changes.past_all.Given as goal
 
 abbrev pub invariant-loop-c : goal.invariant-loop-c

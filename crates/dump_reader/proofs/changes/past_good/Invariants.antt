@@ -1,12 +1,9 @@
 use Rattle.dump_reader.specs.Runs.{Goes}
 use Prim.Native.Nat.{ℕ}
 use mathlib.Core.List.{List}
-use Rattle.dump_reader.proofs.RunLaws as runs
 use mathlib.Core.Path.{◌≡◌}
 use Prim.Native.Nat.{◌≤◌, ◌-◌}
 use lib.ListN.{length}
-use Rattle.dump_reader.proofs.Laws as laws
-use Rattle.dump_reader.proofs.changes.good_one.Reads as good-one-reads
 use Rattle.dump_reader.proofs.changes.past_good.Given as goal
 
 abbrev pub invariant-loop-c : goal.invariant-loop-c

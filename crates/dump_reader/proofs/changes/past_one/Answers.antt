@@ -1,4 +1,3 @@
-use Prim.Native.Nat.{◌-◌}
 use Rattle.dump_reader.proofs.RunLaws as runs
 use mathlib.Core.Path.{◌∙◌, sym}
 use Rattle.dump_reader.proofs.changes.past_one.Goals as goal

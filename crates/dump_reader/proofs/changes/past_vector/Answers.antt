@@ -1,4 +1,3 @@
-use Prim.Native.Nat.{◌-◌}
 use Rattle.dump_reader.proofs.RunLaws as runs
 use mathlib.Core.Path.{◌∙◌, sym}
 use native.Mathlib.Omega.{arith}
@@ -8,7 +7,7 @@ pub returns-then-to-bytes : goal.returns-then-to-bytes
 returns-then-to-bytes c = (omega (arith, c.vector_run-run.ensures.0), c.vector_run-run.ensures.1, runs.vector-open _ _ c.requires.4 _ _ _ _ _ c.vector_run-run.result.count c.vector_run-run.result.at c.requires.5 c.vector_run-run.ensures.3)
 
 pub overflow_add-to : goal.overflow_add-to
-overflow_add-to c = omega (arith, c.if-to-bytes.false, c.well-formed)
+overflow_add-to c = omega (arith, c.if-to-bytes.false, c.well_formed)
 
 pub returns-then-is_blank : goal.returns-then-is_blank
 returns-then-is_blank c = runs.vector-whole _ _ c.requires.4 _ _ _ c.if-to-bytes.false c.vector_run-run.ensures.0 (sym c.is_blank.ensures ∙ c.if-is_blank.true) _ _ _ _ _ _ c.past_blank.ensures _ _ c.requires.5 c.vector_run-run.ensures.3 c.change_word-next.ensures.0 c.change_word-next.ensures.1 c.change_word-next.ensures.2

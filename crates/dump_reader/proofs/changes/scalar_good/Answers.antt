@@ -1,7 +1,5 @@
 use Rattle.dump_change.specs.Change.{tail_code}
 use mathlib.Core.Bool.{false≢true, true≢false}
-use Prim.Native.Nat.{◌-◌}
-use mathlib.Core.Bool.{true, false}
 use Rattle.dump_reader.proofs.RunLaws as runs
 use mathlib.Core.Path.{refl}
 use Rattle.dump_reader.proofs.changes.scalar_good.Goals as goal

@@ -1,6 +1,4 @@
 use mathlib.Core.Bool.{false≢true, true≢false}
-use Prim.Native.Nat.{◌-◌}
-use mathlib.Core.Bool.{true, false}
 use Rattle.dump_reader.proofs.RunLaws as runs
 use mathlib.Core.Path.{refl, ◌∙◌, sym}
 use Rattle.dump_reader.proofs.changes.vector_good.Goals as goal

@@ -1,7 +1,3 @@
-use Rattle.dump_reader.proofs.RunLaws as runs
-use Prim.Native.Nat.{◌-◌}
-use Rattle.dump_reader.proofs.piece.all_changes.Reads as all-changes-reads
-use Rattle.dump_reader.proofs.piece.begins_change.Reads as begins-change-reads
 use Rattle.dump_reader.proofs.piece.ahead.Goals as goal
 
 -- src/piece.rt:128:9

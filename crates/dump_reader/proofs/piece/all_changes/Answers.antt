@@ -1,8 +1,4 @@
 use Rattle.dump_reader.proofs.RunLaws as runs
-use Prim.Native.Nat.{◌-◌}
-use Rattle.dump_find.proofs.bounded_count.Reads as bounded-count-reads
-use Rattle.dump_reader.proofs.changes.past_all.Reads as past-all-reads
-use Rattle.dump_reader.proofs.piece.open_word.Reads as open-word-reads
 use Rattle.dump_reader.proofs.piece.all_changes.Goals as goal
 
 -- src/piece.rt:107:1

@@ -1,7 +1,4 @@
 use mathlib.Core.Bool.{false≢true}
-use Prim.Native.Nat.{◌-◌}
-use mathlib.Core.Bool.{true, false}
-use Rattle.dump_reader.proofs.RunLaws as runs
 use mathlib.Core.Path.{◌∙◌, sym}
 use Rattle.dump_reader.proofs.piece.begins_change.Goals as goal
 

@@ -1,6 +1,5 @@
 use Rattle.dump_reader.specs.declared.word.Word.{Word}
 use Prim.Native.Nat.{◌-◌}
-use Rattle.dump_reader.proofs.RunLaws as runs
 use Rattle.dump_reader.specs.Runs.{open_word}
 use Rattle.dump_reader.specs.Machine.{end_declaration, end_last, end_change, step}
 use mathlib.Core.Path.{sym, ap}

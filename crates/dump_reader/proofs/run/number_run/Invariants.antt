@@ -2,12 +2,8 @@ use Rattle.dump_reader.specs.Runs.{Gathers}
 use Rattle.dump_reader.specs.Machine.{number_word}
 use Prim.Native.Nat.{ℕ}
 use mathlib.Core.List.{List}
-use Rattle.dump_reader.proofs.RunLaws as runs
 use Prim.Native.Nat.{◌≤◌, ◌-◌}
 use lib.ListN.{length}
-use Rattle.dump_reader.proofs.Laws as laws
-use Rattle.dump_reader.proofs.state.is_blank.Reads as is-blank-reads
-use Rattle.dump_words.proofs.add_digit.Reads as add-digit-reads
 use Rattle.dump_reader.proofs.run.number_run.Given as goal
 
 abbrev pub invariant-loop-i : goal.invariant-loop-i

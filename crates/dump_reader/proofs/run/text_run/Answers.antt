@@ -1,10 +1,6 @@
 use Rattle.dump_reader.proofs.RunLaws as runs
 use mathlib.Core.Path.{refl, ◌∙◌, sym}
-use Prim.Native.Nat.{◌-◌}
 use native.Mathlib.Omega.{arith}
-use Rattle.dump_reader.proofs.Laws as laws
-use Rattle.dump_reader.proofs.state.is_blank.Reads as is-blank-reads
-use Rattle.dump_words.proofs.add_text.Reads as add-text-reads
 use Rattle.dump_reader.proofs.run.text_run.Goals as goal
 
 -- src/run.rt:28:5

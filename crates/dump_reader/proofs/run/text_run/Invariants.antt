@@ -1,12 +1,8 @@
 use Rattle.dump_reader.specs.Runs.{text_of, Gathers}
 use Prim.Native.Nat.{ℕ}
 use mathlib.Core.List.{List}
-use Rattle.dump_reader.proofs.RunLaws as runs
 use Prim.Native.Nat.{◌≤◌, ◌-◌}
 use lib.ListN.{length}
-use Rattle.dump_reader.proofs.Laws as laws
-use Rattle.dump_reader.proofs.state.is_blank.Reads as is-blank-reads
-use Rattle.dump_words.proofs.add_text.Reads as add-text-reads
 use Rattle.dump_reader.proofs.run.text_run.Given as goal
 
 abbrev pub invariant-loop-i : goal.invariant-loop-i

@@ -1,10 +1,7 @@
 use lib.ListN.{length-set}
 use Rattle.dump_reader.proofs.RunLaws as runs
 use mathlib.Core.Path.{refl, ◌∙◌, sym}
-use Prim.Native.Nat.{◌-◌}
 use native.Mathlib.Omega.{arith}
-use Rattle.dump_reader.proofs.Laws as laws
-use Rattle.dump_change.proofs.value_of.Reads as value-of-reads
 use Rattle.dump_reader.proofs.run.vector_run.Goals as goal
 
 -- src/run.rt:75:5

@@ -1,10 +1,7 @@
 use Rattle.dump_reader.specs.Runs.{vector_of, Gathers}
-use Rattle.dump_reader.proofs.RunLaws as runs
 use mathlib.Core.Path.{◌≡◌}
 use Prim.Native.Nat.{◌≤◌, ◌-◌}
 use lib.ListN.{length}
-use Rattle.dump_reader.proofs.Laws as laws
-use Rattle.dump_change.proofs.value_of.Reads as value-of-reads
 use Rattle.dump_reader.proofs.run.vector_run.Given as goal
 
 abbrev pub invariant-loop-i : goal.invariant-loop-i

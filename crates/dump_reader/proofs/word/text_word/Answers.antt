@@ -1,4 +1,3 @@
-use Rattle.dump_reader.proofs.Laws as laws
 use Rattle.dump_reader.specs.Machine.{end_declaration, end_last, end_change, step}
 use Rattle.dump_reader.proofs.word.text_word.Goals as goal
 

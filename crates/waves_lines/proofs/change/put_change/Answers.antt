@@ -9,29 +9,25 @@ use Rattle.waves_lines.proofs.change.put_change.Goals as goal
 
 pub bounds-out-at : goal.bounds-out-at
 bounds-out-at c =
-    let s = c.before in
-    let a = s.args in
-    omega (arith, s.requires.3, value-length a.value a.checker a.mark)
+    let a = c.args in
+    omega (arith, c.requires.3, value-length a.value a.checker a.mark)
 
 pub put_name-end-requires : goal.put_name-end-requires
 put_name-end-requires c =
-    let s = c.before in
-    let a = s.args in
-    (omega (arith, s.requires.1), omega (arith, s.requires.2), omega (arith, s.requires.3, value-length a.value a.checker a.mark, length-set a.out.now a.at (48 + a.value)))
+    let a = c.args in
+    (omega (arith, c.requires.1), omega (arith, c.requires.2), omega (arith, c.requires.3, value-length a.value a.checker a.mark, length-set a.out.now a.at (48 + a.value)))
 
 pub bounds-out-end : goal.bounds-out-end
 bounds-out-end c =
-    let s = c.before in
-    let a = s.args in
+    let a = c.args in
     let named = c.put_name-end in
-    omega (arith, s.requires.3, value-length a.value a.checker a.mark, length-set a.out.now a.at (48 + a.value), named.ensures.next_is, put-length named.ensures)
+    omega (arith, c.requires.3, value-length a.value a.checker a.mark, length-set a.out.now a.at (48 + a.value), named.ensures.next_is, put-length named.ensures)
 
 pub overflow_add-result : goal.overflow_add-result
 overflow_add-result c =
-    let s = c.before in
-    let a = s.args in
+    let a = c.args in
     let named = c.put_name-end in
-    omega (arith, s.requires.3, value-length a.value a.checker a.mark, named.ensures.next_is)
+    omega (arith, c.requires.3, value-length a.value a.checker a.mark, named.ensures.next_is)
 
 pub returns : goal.returns
 unfolding line

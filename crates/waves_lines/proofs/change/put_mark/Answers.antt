@@ -14,13 +14,12 @@ returns-then-value-before c =
 
 pub put_change-requires : goal.put_change-requires
 put_change-requires c =
-    let s = c.before in
-    let a = s.args in
-    rw (shifted_one a.i 32 (omega (arith, s.requires.1))) (
+    let a = c.args in
+    rw (shifted_one a.i 32 (omega (arith, c.requires.1))) (
       omega arith,
-      s.requires.0,
-      small-mark a.i s.requires.1,
-      omega (arith, s.requires.2, ap length (other-mark a.row a.before a.checker a.i c.if-value-before.false)),
+      c.requires.0,
+      small-mark a.i c.requires.1,
+      omega (arith, c.requires.2, ap length (other-mark a.row a.before a.checker a.i c.if-value-before.false)),
     )
 
 pub shape_of-out : goal.shape_of-out
@@ -28,7 +27,6 @@ shape_of-out c = put-length c.put_change.ensures
 
 pub returns : goal.returns
 returns c =
-    let s = c.before.before in
-    let a = s.args in
-    let put = rw (shifted_one a.i 32 (omega (arith, s.requires.1))) at c.put_change.ensures in
+    let a = c.args in
+    let put = rw (shifted_one a.i 32 (omega (arith, c.requires.1))) at c.put_change.ensures in
     rw (other-mark a.row a.before a.checker a.i c.if-value-before.false) put

@@ -1,7 +1,7 @@
--- `waves_lines::cycle::row_before` meets its contract. Assumes nothing.
+-- `waves_lines::cycle_lines::row_before` meets its contract. Assumes nothing.
 use borrow.Author.Tests.{eq-eqb, ne_eqb}
 use Rattle.waves_lines.specs.Lines.{row_before}
-use Rattle.waves_lines.proofs.cycle.row_before.Goals as goal
+use Rattle.waves_lines.proofs.cycle_lines.row_before.Goals as goal
 
 pub returns-then-t-eq0 : goal.returns-then-t-eq0
 unfolding row_before
