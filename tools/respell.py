@@ -96,12 +96,22 @@ def turn_dashes(text, table, mark):
     def word(m):
         return table.get(m.group(0), m.group(0))
 
+    def code_of(code):
+        # what a program writes stays
+        if mark != "//":
+            return DASHED.sub(word, code)
+        parts, at = [], 0
+        for s in STRING.finditer(code):
+            parts += [DASHED.sub(word, code[at : s.start()]), s.group(0)]
+            at = s.end()
+        return "".join(parts) + DASHED.sub(word, code[at:])
+
     out = []
     for line in text.split("\n"):
         at = line.find(mark) if mark else -1
         code, comment = (line, "") if at < 0 else (line[:at], line[at:])
         comment = TICKED.sub(lambda m: DASHED.sub(word, m.group(0)), comment)
-        out.append(DASHED.sub(word, code) + comment)
+        out.append(code_of(code) + comment)
     return "\n".join(out)
 
 

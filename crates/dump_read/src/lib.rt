@@ -1,3 +1,2 @@
 // The reader of dumps, byte by byte, against the reading of words that the definition has: claims, with no code.
 #![tactic(auto)]
-

@@ -28,7 +28,7 @@ pub fn edit_and_take_back(
     b: usize,
     samples: &mut [u32],
 ) -> BothResults
-    ensures { BackAnswer c a b samples.old samples.new (record { trace = trace.entry.now; rows = rows.old; words = words.old }) (record { trace = trace.exit.now; rows = rows.new; words = words.new }) result.edit result.back }
+    ensures { BackAnswer c a b samples.old samples.new (record { trace = trace.old; rows = rows.old; words = words.old }) (record { trace = trace.new; rows = rows.new; words = words.new }) result.edit result.back }
 {
     let refused = edit_refusal(c, trace.len(), rows.len(), words.len(), a, b, samples.len());
     if refused != 0 {
@@ -66,7 +66,7 @@ fn swap_and_recheck(
     samples: &mut [u32],
 ) -> RecheckResult
     requires { frame_words * a + length samples.old ≤ length trace.old }
-    ensures { SwappedAndRechecked c a b samples.old samples.new (record { trace = trace.entry.now; rows = rows.old; words = words.old }) (record { trace = trace.exit.now; rows = rows.new; words = words.new }) result }
+    ensures { SwappedAndRechecked c a b samples.old samples.new (record { trace = trace.old; rows = rows.old; words = words.old }) (record { trace = trace.new; rows = rows.new; words = words.new }) result }
 {
     swap_words(trace, FRAME_WORDS * a, samples);
     recheck(c, trace, rows, words, a, b)

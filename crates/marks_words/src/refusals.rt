@@ -5,7 +5,7 @@ use report::{number, text};
 fn print_reason(refusal: u32, identifier: u64) {
     if refusal == 10 {
         if identifier == 0 {
-            text(b"the text is ill_formed");
+            text(b"the text is ill-formed");
         } else {
             text(b"an undeclared identifier: ");
             print_identifier(identifier);

@@ -8,7 +8,6 @@ use lib.Dec.{T, eqb, leb, ltb, leb→le, eqb→eq}
 use borrow.Author.Tests.{lt-ltb, eq-eqb, ne_eqb, eqb-true, eqb-false}
 use lib.Bits.{bit_or, or_add_and, and_le_l, and_le_r}
 use Rattle.bus.specs.Range.{width}
-use Rattle.bus.specs.declared.range.Range.{Range}
 use Rattle.bits.proofs.Tests.{either, is_true, of-true, iff-eq, and_left, and_right, or_cases}
 use Rattle.rules.specs.declared.config.Config.{Config}
 use Rattle.rules.specs.declared.frame.Frame.{Frame}

@@ -10,11 +10,9 @@ returns-then-rows-t c = no_cycle c.full_check-refused.ensures c.if-refused-ne0.f
 
 pub store_frame-requires : goal.store_frame-requires
 store_frame-requires c =
-    let s = c.before.before in
-    has-cycle s.full_check-refused.ensures s.if-refused-ne0.false s.if-rows-t.false
+    has-cycle c.full_check-refused.ensures c.if-refused-ne0.false c.if-rows-t.false
 
 pub returns : goal.returns
 returns c =
-    let s = c.before.before in
-    done s.full_check-refused.ensures s.if-refused-ne0.false s.if-rows-t.false
+    done c.full_check-refused.ensures c.if-refused-ne0.false c.if-rows-t.false
     c.store_frame.ensures c.recheck.ensures

@@ -36,7 +36,7 @@ pub loop-i-preserved : goal.loop-i-preserved
 unfolding frames
 loop-i-preserved c =
     let at = c.loop-i in
-    let s = c.before in
+    let s = c in
     let first : ℕ = frame_words * s.args.t in
     let e : first + (at.i + 1) ≡ suc (first + at.i) = omega arith in
     let k : first + at.i - first ≡ at.i = omega arith in (
@@ -51,6 +51,6 @@ shape_of-trace c = c.loop-i.invariant.1.same_length
 pub returns : goal.returns
 returns c =
     let at = c.loop-i in
-    let s = c.before in
+    let s = c in
     let all : at.i ≡ frame_words = omega arith in
     stored s.args.trace.now at.trace s.args.t s.args.frame (rw all at at.invariant.1)

@@ -1,5 +1,6 @@
 -- `checker::count::open_count` meets its contract: each arm counts as the kind's family asks. Assumes nothing.
 use mathlib.Core.Path.{refl, sym, ◌∙◌}
+use native.Mathlib.Omega.{arith}
 use lib.Count.{ones}
 use Rattle.rules.specs.Config.Family.{sequence, none}
 use Rattle.rules.specs.Possible.{open_count_of}
@@ -20,13 +21,13 @@ pub returns-in-0-to-2 : goal.returns-in-0-to-2
 unfolding open_count_of
 returns-in-0-to-2 c =
     let a = c.args in
-    count-taken a.c a.word sequence (ones a.word) (family-sequence a.c.kind c.if-kind-lt3.true)
+    count-taken a.c a.word sequence (ones a.word) (family-sequence a.c.kind (omega arith))
     (sym c.refusal-refused.ensures ∙ c.if-refused-ne0.false) c.if-word-eq-STOPPED.false refl
 
 pub returns-in-3-to-8 : goal.returns-in-3-to-8
 returns-in-3-to-8 c =
     let a = c.args in
-    count-one a.c a.word c.to_bit.result c.if-kind-lt3.false c.if-kind-lt9.true
+    count-one a.c a.word c.to_bit.result (omega arith) (omega arith)
     (sym c.refusal-refused.ensures ∙ c.if-refused-ne0.false) c.if-word-eq-STOPPED.false
     c.to_bit.ensures.value
 
@@ -34,5 +35,5 @@ pub returns-in-9-to-255 : goal.returns-in-9-to-255
 unfolding open_count_of
 returns-in-9-to-255 c =
     let a = c.args in
-    count-taken a.c a.word none 0 (family-none a.c.kind c.if-kind-lt9.false)
+    count-taken a.c a.word none 0 (family-none a.c.kind (omega arith))
     (sym c.refusal-refused.ensures ∙ c.if-refused-ne0.false) c.if-word-eq-STOPPED.false refl

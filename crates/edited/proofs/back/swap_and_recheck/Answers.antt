@@ -3,5 +3,4 @@ use Rattle.edited.proofs.back.swap_and_recheck.Goals as goal
 
 pub returns : goal.returns
 returns c =
-    let run = c.before.before in
-    record { swapped = run.swap_words.ensures; rechecked = run.recheck.ensures }
+    record { swapped = c.swap_words.ensures; rechecked = c.recheck.ensures }

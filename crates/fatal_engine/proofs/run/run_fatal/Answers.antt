@@ -7,27 +7,16 @@ use Rattle.fatal_engine.proofs.run.run_fatal.Goals as goal
 
 pub returns-then-s-eq-STOPPED : goal.returns-then-s-eq-STOPPED
 returns-then-s-eq-STOPPED c =
-    let t = c.before.before in
-    let s = t.before in
-    failed-before s.requires.1 s.requires.0 t.if-s-eq-STOPPED.true t.stay.ensures
+    failed-before c.requires.1 c.requires.0 c.if-s-eq-STOPPED.true c.stay.ensures
 
 pub watch-reached-requires : goal.watch-reached-requires
 watch-reached-requires c =
-    let g = c.before.before in
-    let s = g.before in
-    (fatal-runnable s.requires.1 g.going_on.ensures s.requires.0, ap (λ (x : Config). x.severity) g.going_on.ensures, g.if-s-eq-STOPPED.false)
+    (fatal-runnable c.requires.1 c.going_on.ensures c.requires.0, ap (λ (x : Config). x.severity) c.going_on.ensures, c.if-s-eq-STOPPED.false)
 
 pub returns-then-reached : goal.returns-then-reached
 returns-then-reached c =
-    let w = c.before.before in
-    let g = w.before in
-    let s = g.before in
-    not-failed s.requires.1 g.going_on.ensures s.requires.0 w.watch-reached.ensures c.if-reached.true
+    not-failed c.requires.1 c.going_on.ensures c.requires.0 c.watch-reached.ensures c.if-reached.true
 
 pub returns : goal.returns
 returns c =
-    let t = c.before.before in
-    let w = t.before in
-    let g = w.before in
-    let s = g.before in
-    has-failed s.requires.1 g.going_on.ensures s.requires.0 w.watch-reached.ensures t.if-reached.false t.stay-2.ensures
+    has-failed c.requires.1 c.going_on.ensures c.requires.0 c.watch-reached.ensures c.if-reached.false c.stay-2.ensures

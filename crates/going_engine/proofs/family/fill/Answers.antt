@@ -5,29 +5,27 @@ use Rattle.going_engine.proofs.family.fill.Goals as goal
 
 pub fill_descending-requires : goal.fill_descending-requires
 fill_descending-requires c =
-    let s = c.before.before in
-    (s.requires.0, (family-transition s.args.c.kind c.in-6.keys1, s.requires.2), c.all_descend.ensures c.if-all_descend.true, s.requires.1)
+    (c.requires.0, (family-transition c.args.c.kind c.in-6.is, c.requires.2), c.all_descend.ensures c.if-all_descend.true, c.requires.1)
 
 pub fill_transition-requires : goal.fill_transition-requires
 fill_transition-requires c =
-    let s = c.before.before in (s.requires.0, (family-transition s.args.c.kind c.in-6.keys1, s.requires.2), s.requires.1)
+    (c.requires.0, (family-transition c.args.c.kind c.in-6.is, c.requires.2), c.requires.1)
 
 pub fill_value-requires : goal.fill_value-requires
 fill_value-requires c =
-    let s = c.before.before in (s.requires.0, (family-value s.args.c.kind c.in-7.keys2, s.requires.2), s.requires.1)
+    (c.requires.0, (family-value c.args.c.kind c.in-7.is, c.requires.2), c.requires.1)
 
 pub fill_stability-requires : goal.fill_stability-requires
 fill_stability-requires c =
-    let s = c.before.before in (s.requires.0, (family-stability s.args.c.kind c.in-8.keys3, s.requires.2), s.requires.1)
+    (c.requires.0, (family-stability c.args.c.kind c.in-8.is, c.requires.2), c.requires.1)
 
 pub fill_sequence-requires : goal.fill_sequence-requires
 fill_sequence-requires c =
-    let s = c.before.before in (s.requires.0, (family-sequence s.args.c.kind c.if-kind-lt3.true, s.requires.2), s.requires.1)
+    (c.requires.0, (family-sequence c.args.c.kind (omega arith), c.requires.2), c.requires.1)
 
 pub fill_time-requires : goal.fill_time-requires
 fill_time-requires c =
-    let s = c.before.before in
-    (s.requires.0, (family-time s.args.c.kind c.if-kind-lt3.false c.if-kind-lt6.true, s.requires.2), s.requires.1)
+    (c.requires.0, (family-time c.args.c.kind (omega arith) (omega arith), c.requires.2), c.requires.1)
 
 pub returns-in-9-to-255 : goal.returns-in-9-to-255
-returns-in-9-to-255 c = let s = c.before.before in absurd (omega (arith, kind-low s.args.c s.requires.0.good))
+returns-in-9-to-255 c = absurd (omega (arith, kind-low c.args.c c.requires.0.good))

@@ -5,9 +5,8 @@ use Rattle.one_step.proofs.family.after_trigger.Goals as goal
 
 pub value_cycle-requires : goal.value_cycle-requires
 value_cycle-requires c =
-    let s = c.before in (s.requires.0, (family-value s.args.c.kind c.if-c-eq7.true, s.requires.1), s.requires.2, c.expected_wires.ensures)
+    (c.requires.0, (family-value c.args.c.kind c.if-c-eq7.true, c.requires.1), c.requires.2, c.expected_wires.ensures)
 
 pub stability_cycle-requires : goal.stability_cycle-requires
 stability_cycle-requires c =
-    let s = c.before in
-    (s.requires.0, (family-stability s.args.c.kind (omega (arith, c.if-c-eq7.false, kind-low s.args.c s.requires.0, s.requires.3)), s.requires.1), s.requires.2)
+    (c.requires.0, (family-stability c.args.c.kind (omega (arith, c.if-c-eq7.false, kind-low c.args.c c.requires.0, c.requires.3)), c.requires.1), c.requires.2)

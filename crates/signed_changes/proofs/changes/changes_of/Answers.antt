@@ -1,6 +1,6 @@
 -- `signed_changes::changes::changes_of` meets its contract. The loop's invariant: the entries before i are the changes. A turn writes entry i and no other. The measure
 -- is what is left of the entries. Assumes nothing.
-use Prim.Native.Nat.{ℕ, ◌-◌, ◌<◌}
+use Prim.Native.Nat.{ℕ, ◌<◌}
 use mathlib.Core.Path.{◌≡◌, ◌∙◌}
 use native.Mathlib.Omega.{arith}
 use borrow.Author.Count.{below_none, below_more}

@@ -3,9 +3,4 @@ use Rattle.trace.proofs.Staying.{stayed-all}
 use Rattle.stopped_runs.proofs.fill.fill.Goals as goal
 
 pub returns : goal.returns
-returns c =
-    let t = c.before.before in
-    let r = t.before in
-    let k = r.before in
-    let s = k.before in
-    stayed-all s.args.s s.requires.4 s.requires.0 k.kept_at_end-last.ensures r.clear.ensures t.stop.ensures
+returns c = stayed-all c.args.s c.requires.4 c.requires.0 c.kept_at_end-last.ensures c.clear.ensures c.stop.ensures

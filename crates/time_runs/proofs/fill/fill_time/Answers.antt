@@ -1,66 +1,53 @@
 -- `time_runs::fill::fill_time` meets its contract. The loop's invariant is `Filling`: the run has come to an entry and has stored those before it. The measure is
 -- what is left of the stretch. Assumes nothing.
-use Prim.Native.Nat.{◌+◌, ◌-◌, ◌<◌}
+use Prim.Native.Nat.{◌-◌}
 use mathlib.Core.Path.{◌≡◌, refl}
 use mathlib.Core.Bool.{false}
 use native.Mathlib.Numerals.{add-one}
 use native.Mathlib.Omega.{arith}
-use Rattle.trace.specs.Traces.{frames}
-use Rattle.trace.specs.Stretches.{Runnable}
 use Rattle.trace.proofs.Running.{settled, settled-runnable, settled-ran, filling-none, filling-more, filled}
 use Rattle.time_runs.proofs.fill.fill_time.Goals as goal
-
--- the function's start, and what it may go by
-abbrev start : goal.In-loop-at → goal.Start
-start l = l.before.before.before.before.before.before.before
-
-ready : (s : goal.Start) → Runnable s.args.c s.args.trace.now s.args.rows.now s.args.words.now (settled s.args.s false)
-ready s = settled-runnable false s.requires.0
-
-low : (l : goal.In-loop-at) → (start l).args.s.from + l.loop-at.at < frames (start l).args.trace.now
-low l = omega (arith, (start l).requires.0.in_trace)
 
 pub kept_at_end-last-requires : goal.kept_at_end-last-requires
 kept_at_end-last-requires c = (c.requires.0.low, c.requires.0.words_hold)
 
 pub loop-at-init : goal.loop-at-init
 loop-at-init c =
-    let s = c.before.before in
-    filling-none s.args.c s.args.trace.now s.args.rows.now s.args.words.now (settled s.args.s false) (ready s) refl
+    let s = c in
+    filling-none s.args.c s.args.trace.now s.args.rows.now s.args.words.now (settled s.args.s false) (settled-runnable false s.requires.0) refl
 
 pub overflow_add-from : goal.overflow_add-from
-overflow_add-from c = omega (arith, low c, (start c).requires.0.short)
+overflow_add-from c = omega (arith, c.requires.0.in_trace, c.requires.0.short)
 
 pub frame_at-requires : goal.frame_at-requires
-frame_at-requires c = low c
+frame_at-requires c = (omega (arith, c.requires.0.in_trace))
 
 pub time_cycle-next-requires : goal.time_cycle-next-requires
-time_cycle-next-requires c = let l = c.before.before in ((start l).requires.0.good, (start l).requires.1, l.loop-at.invariant.possible_word)
+time_cycle-next-requires c = (c.requires.0.good, c.requires.1, c.loop-at.invariant.possible_word)
 
 pub offset_bounds-rows-at : goal.offset_bounds-rows-at
-offset_bounds-rows-at c = let l = c.before.before in omega (arith, low l, (start l).requires.0.short)
+offset_bounds-rows-at c = omega (arith, c.requires.0.in_trace, c.requires.0.short)
 
 pub bounds-rows-at : goal.bounds-rows-at
-bounds-rows-at c = let l = c.before.before in omega (arith, l.loop-at.invariant.rows_are.same_length, (start l).requires.0.rows_hold)
+bounds-rows-at c = omega (arith, c.loop-at.invariant.rows_are.same_length, c.requires.0.rows_hold)
 
 pub offset_bounds-words-at : goal.offset_bounds-words-at
-offset_bounds-words-at c = let l = c.before.before in omega (arith, low l, (start l).requires.0.short)
+offset_bounds-words-at c = omega (arith, c.requires.0.in_trace, c.requires.0.short)
 
 pub bounds-words-at : goal.bounds-words-at
-bounds-words-at c = let l = c.before.before in omega (arith, l.loop-at.invariant.words_are.same_length, (start l).requires.0.words_hold)
+bounds-words-at c = omega (arith, c.loop-at.invariant.words_are.same_length, c.requires.0.words_hold)
 
 pub overflow_add-at : goal.overflow_add-at
-overflow_add-at c = let l = c.before.before in omega (arith, low l, (start l).requires.0.short)
+overflow_add-at c = omega (arith, c.requires.0.in_trace, c.requires.0.short)
 
 pub loop-at-preserved : goal.loop-at-preserved
 loop-at-preserved c =
-    let l = c.before.before in
-    let s = start l in
-    let at = l.loop-at in
+    let s = c in
+    let at = c.loop-at in
     let next = c.time_cycle-next in
     rw (add-one at.at)
-    (filling-more s.args.c s.args.trace.now s.args.rows.now s.args.words.now (settled s.args.s false) (ready s) refl at.rows at.words
-    at.at at.word at.invariant l.loop-at-test.true next.result.row next.result.word (rw c.frame_at.ensures at next.ensures))
+    (filling-more s.args.c s.args.trace.now s.args.rows.now s.args.words.now (settled s.args.s false) (settled-runnable false s.requires.0) refl at.rows at.words
+    at.at at.word at.invariant c.loop-at-test.true next.result.row next.result.word (rw c.frame_at.ensures at next.ensures))
 
 pub shape_of-rows : goal.shape_of-rows
 shape_of-rows c = c.loop-at.invariant.rows_are.same_length
@@ -71,9 +58,9 @@ shape_of-words c = c.loop-at.invariant.words_are.same_length
 pub returns : goal.returns
 returns c =
     let at = c.loop-at in
-    let s = c.before.before in
+    let s = c in
     let end : at.at ≡ s.args.s.to = omega (arith, at.invariant.high) in
     rw end
     (settled-ran s.args.c s.args.trace.now s.args.rows.now s.args.words.now s.args.s false at.rows at.words _ s.requires.2
-    (filled s.args.c s.args.trace.now s.args.rows.now s.args.words.now (settled s.args.s false) (ready s) refl at.rows at.words
+    (filled s.args.c s.args.trace.now s.args.rows.now s.args.words.now (settled s.args.s false) (settled-runnable false s.requires.0) refl at.rows at.words
     at.word _ (rw end at at.invariant) c.kept_at_end-last.ensures))

@@ -5,25 +5,22 @@ use Rattle.rules.specs.Frame.{frame_word, unknown}
 use Rattle.rules.proofs.Good.{p-within, q-within, r-within}
 use Rattle.transition.proofs.step.descending_in.Goals as goal
 
-abbrev start : goal.After-descending_value-arg-1 → goal.Start
-start c = c.before.before.before.before.before
-
 pub descending_value-requires : goal.descending_value-requires
-descending_value-requires c = let s = start c in (p-within s.args.c s.pre.0, s.pre.1.p_descends)
+descending_value-requires c = let s = c in (p-within s.args.c s.requires.0, s.requires.1.p_descends)
 
 pub descending_value-requires-2 : goal.descending_value-requires-2
-descending_value-requires-2 c = let s = start c.before in (q-within s.args.c s.pre.0, s.pre.1.q_descends)
+descending_value-requires-2 c = let s = c in (q-within s.args.c s.requires.0, s.requires.1.q_descends)
 
 pub descending_value-requires-3 : goal.descending_value-requires-3
-descending_value-requires-3 c = let s = start c.before in (r-within s.args.c s.pre.0, s.pre.1.r_descends)
+descending_value-requires-3 c = let s = c in (r-within s.args.c s.requires.0, s.requires.1.r_descends)
 
 pub returns : goal.returns
 returns c =
-    let second = c.before in
-    let first = second.before in
-    let s = start first.before in
+    let second = c in
+    let first = second in
+    let s = first in
     let k = s.args.c in
-    let f = s.args.t2 in
+    let f = s.args.frame in
     record {
       up_is = first.out_of_reset.ensures;
       test_is = λ e. first.descending_value.ensures ∙ read_known k.p (frame_word f 1) (unknown f 1) e;

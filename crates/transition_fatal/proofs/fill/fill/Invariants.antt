@@ -10,7 +10,7 @@ use Rattle.trace.proofs.Running.{reached}
 use Rattle.transition_fatal.proofs.fill.fill.Given as goal
 
 abbrev pub invariant-loop-at : goal.invariant-loop-at
-invariant-loop-at l = Running (fatally l.c) l.trace l.initial.rows l.initial.words (record { from = from; at = at₀; to = to; stops = false; word = word₀; kept = l.kept }) l.rows l.words
+invariant-loop-at l = Running (fatally l.c) l.trace l.initial.rows l.initial.words (record { from = l.from; at = l.initial.at; to = l.to; stops = false; word = l.initial.word; kept = l.kept }) l.rows l.words
     (reached l.at l.word (kept_from l.initial.words l.initial.at l.kept l.at))
     × (l.word ≡ stopped_word → ⊥)
 

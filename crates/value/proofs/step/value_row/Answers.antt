@@ -10,26 +10,26 @@ use Rattle.rules.proofs.Good.{value-config}
 use Rattle.value.proofs.step.value_row.Goals as goal
 
 pub is_tested-tested-requires : goal.is_tested-tested-requires
-is_tested-tested-requires c = let s = c.before in (value-config s.args.c s.requires.0 s.requires.1).low
+is_tested-tested-requires c = let s = c in (value-config s.args.c s.requires.0 s.requires.1).low
 
 pub returns-then-frame-e-ne0 : goal.returns-then-frame-e-ne0
 returns-then-frame-e-ne0 c =
-    let tested = c.before in
-    let s = tested.before in
+    let tested = c in
+    let s = tested in
     let a = s.args in
-    let none : known_p a.c a.t5 ≡ false =
-    sym (s.requires.2.none (unknown a.t5 1)) ∙ ne_eqb (bit_and (unknown a.t5 1) a.e.mask) 0 c.if-frame-e-ne0.true in
+    let none : known_p a.c a.frame ≡ false =
+    sym (s.requires.2.none (unknown a.frame 1)) ∙ ne_eqb (bit_and (unknown a.frame 1) a.e.mask) 0 c.if-frame-e-ne0.true in
     c.window_row.ensures ∙ rw (tested.is_tested-tested.ensures, tested.is_enabled.ensures, none, and-false, and-true) refl
 
 pub returns : goal.returns
 returns c =
-    let sampled = c.before in
-    let e = sampled.before in
-    let tested = e.before in
-    let s = tested.before in
+    let sampled = c in
+    let e = sampled in
+    let tested = e in
+    let s = tested in
     let a = s.args in
-    let all : known_p a.c a.t5 ≡ true =
-    sym (s.requires.2.none (unknown a.t5 1)) ∙ eq-eqb (bit_and (unknown a.t5 1) a.e.mask) 0 e.if-frame-e-ne0.false in
-    let same : eqb (bit_and sampled.sample.result a.e.mask) a.e.wires ≡ eqb (P a.c a.t5) a.c.value =
-    ap (λ (x : ℕ). eqb (bit_and x a.e.mask) a.e.wires) sampled.sample.ensures ∙ s.requires.2.same (sample a.t5 1) in
+    let all : known_p a.c a.frame ≡ true =
+    sym (s.requires.2.none (unknown a.frame 1)) ∙ eq-eqb (bit_and (unknown a.frame 1) a.e.mask) 0 e.if-frame-e-ne0.false in
+    let same : eqb (bit_and sampled.sample.result a.e.mask) a.e.wires ≡ eqb (P a.c a.frame) a.c.value =
+    ap (λ (x : ℕ). eqb (bit_and x a.e.mask) a.e.wires) sampled.sample.ensures ∙ s.requires.2.same (sample a.frame 1) in
     c.window_row-2.ensures ∙ rw (tested.is_tested-tested.ensures, tested.is_enabled.ensures, same, all, and-true, and-false) refl
