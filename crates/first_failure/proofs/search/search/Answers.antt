@@ -1,6 +1,5 @@
 -- `first_failure::search::search` meets its contract. The outer loop keeps that no earlier cycle has a failing row, the inner one that no smaller checker has
 -- one in this cycle. Assumes nothing.
-use Prim.Native.Nat.{ℕ, ◌+◌, ◌-◌, ◌*◌, ◌≤◌, ◌<◌}
 use mathlib.Core.Path.{◌≡◌, refl, sym, subst, ◌∙◌}
 use native.Mathlib.Numerals.{add-one}
 use native.Mathlib.Omega.{arith}

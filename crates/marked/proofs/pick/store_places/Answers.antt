@@ -6,7 +6,6 @@ use native.Mathlib.Omega.{arith}
 use lib.Pow.{pow_pos}
 use Rattle.bits.proofs.Bits.{shifted_one}
 use Rattle.listed.proofs.Highest.{highest}
-use Rattle.marked.specs.Picks.{block_cycles}
 use Rattle.marked.proofs.Places.{storing-none, storing-all, top, top-low, storing-room, storing-more}
 use Rattle.marked.proofs.pick.store_places.Goals as goal
 

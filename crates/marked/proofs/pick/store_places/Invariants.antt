@@ -1,5 +1,4 @@
 -- `marked::pick::store_places` meets its contract: each turn stores the place of the highest bit and takes the bit away. Assumes nothing.
-use Prim.Native.Nat.{◌-◌}
 use Rattle.marked.proofs.Places.{Storing}
 use Rattle.marked.proofs.pick.store_places.Given as goal
 
