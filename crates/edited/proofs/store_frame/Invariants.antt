@@ -7,7 +7,7 @@ use Rattle.edited.proofs.Stores.{word_of}
 use Rattle.edited.proofs.store_frame.Given as goal
 
 abbrev pub invariant-loop-i : goal.invariant-loop-i
-invariant-loop-i l = (l.i ≤ frame_words) × (Written (word_of (record { samples = l.initial.trace }) l.samples) l.samples (l.samples + l.i) l.t l.trace)
+invariant-loop-i l = (l.i ≤ frame_words) × (Written (word_of (record { samples = l.samples }) l.first) l.first (l.first + l.i) l.initial.trace l.trace)
 
 abbrev pub decreases-loop-i : goal.decreases-loop-i
 decreases-loop-i l = frame_words - l.i

@@ -3,7 +3,7 @@ use Prim.Native.Nat.{◌-◌, ◌≤◌}
 use Rattle.report.proofs.spaced_numbers.Given as goal
 
 abbrev pub invariant-loop-t : goal.invariant-loop-t
-invariant-loop-t l = l.t ≤ t-end
+invariant-loop-t l = l.t ≤ l.t-end
 
 abbrev pub decreases-loop-t : goal.decreases-loop-t
-decreases-loop-t l = t-end - l.t
+decreases-loop-t l = l.t-end - l.t

@@ -8,7 +8,7 @@ use Rattle.blocks.proofs.Cycles.{entries_of}
 use Rattle.blocks.proofs.write.write_block.Given as goal
 
 abbrev pub invariant-loop-i : goal.invariant-loop-i
-invariant-loop-i l = (l.i ≤ l.initial.list) × Stored (entries_of l.c (frame_at l.trace) l.t (take l.i l.picked)) l.at l.marked l.list l.next
+invariant-loop-i l = (l.i ≤ l.marked) × Stored (entries_of l.c (frame_at l.trace) l.t (take l.i l.picked)) l.initial.list l.at l.list l.next
 
 abbrev pub decreases-loop-i : goal.decreases-loop-i
-decreases-loop-i l = l.initial.list - l.i
+decreases-loop-i l = l.marked - l.i

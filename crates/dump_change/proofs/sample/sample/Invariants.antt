@@ -6,7 +6,7 @@ use lib.ListN.{length}
 use Rattle.dump_change.proofs.sample.sample.Given as goal
 
 abbrev pub invariant-loop-j : goal.invariant-loop-j
-invariant-loop-j l = (length l.frames ≡ length l.k) × (sample_from l.store l.k l.initial.frames 0 8 ≡ sample_from l.store l.frames l.initial.frames l.j (8 - l.j))
+invariant-loop-j l = (length l.frames ≡ length l.initial.frames) × (sample_from l.store l.initial.frames l.k 0 8 ≡ sample_from l.store l.frames l.k l.j (8 - l.j))
 
 abbrev pub decreases-loop-j : goal.decreases-loop-j
 decreases-loop-j l = 8 - l.j

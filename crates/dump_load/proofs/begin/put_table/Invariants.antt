@@ -6,7 +6,7 @@ use lib.ListN.{length}
 use Rattle.dump_load.proofs.begin.put_table.Given as goal
 
 abbrev pub invariant-loop-k : goal.invariant-loop-k
-invariant-loop-k l = (length l.store ≡ 8468) × (table_from l.wires l.initial.store 0 258 ≡ table_from l.store l.initial.store l.k (258 - l.k))
+invariant-loop-k l = (length l.store ≡ 8468) × (table_from l.initial.store l.wires 0 258 ≡ table_from l.store l.wires l.k (258 - l.k))
 
 abbrev pub decreases-loop-k : goal.decreases-loop-k
 decreases-loop-k l = 258 - l.k

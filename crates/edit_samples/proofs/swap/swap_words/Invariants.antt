@@ -6,8 +6,8 @@ use Rattle.trace.specs.Runs.{Written}
 use Rattle.edit_samples.proofs.swap.swap_words.Given as goal
 
 abbrev pub invariant-loop-i : goal.invariant-loop-i
-invariant-loop-i l = (l.i ≤ length l.initial.trace) × (Written (λ (j : ℕ). get_or l.initial.trace (j - l.i-end) 0) l.i-end (l.i-end + l.i) l.first l.trace)
-    × (Written (λ (k : ℕ). get_or l.first (l.i-end + k) 0) 0 l.i l.initial.trace l.samples)
+invariant-loop-i l = (l.i ≤ length l.initial.samples) × (Written (λ (j : ℕ). get_or l.initial.samples (j - l.first) 0) l.first (l.first + l.i) l.initial.trace l.trace)
+    × (Written (λ (k : ℕ). get_or l.initial.trace (l.first + k) 0) 0 l.i l.initial.samples l.samples)
 
 abbrev pub decreases-loop-i : goal.decreases-loop-i
-decreases-loop-i l = length l.initial.trace - l.i
+decreases-loop-i l = length l.initial.samples - l.i

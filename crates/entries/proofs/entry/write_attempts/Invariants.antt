@@ -3,7 +3,7 @@ use Rattle.entries.proofs.Writing.{Writing}
 use Rattle.entries.proofs.entry.write_attempts.Given as goal
 
 abbrev pub invariant-loop-rest : goal.invariant-loop-rest
-invariant-loop-rest l = Writing l.lost l.t l.at l.initial.list l.list l.rest l.next
+invariant-loop-rest l = Writing l.lost l.t l.initial.list l.at l.list l.rest l.next
 
 abbrev pub decreases-loop-rest : goal.decreases-loop-rest
 decreases-loop-rest l = l.rest

@@ -7,7 +7,7 @@ use Rattle.first_failure.proofs.Searches.{Clean, CleanIn}
 use Rattle.first_failure.proofs.search.search.Given as goal
 
 abbrev pub invariant-loop-k : goal.invariant-loop-k
-invariant-loop-k l = (l.found ≡ Nothing) × (l.k ≤ l.checkers) × Clean l.checkers l.cycles l.rows l.initial.found × CleanIn l.checkers l.cycles l.rows l.initial.found l.k
+invariant-loop-k l = (l.found ≡ Nothing) × (l.k ≤ l.checkers) × Clean l.checkers l.cycles l.rows l.t × CleanIn l.checkers l.cycles l.rows l.t l.k
 
 abbrev pub decreases-loop-k : goal.decreases-loop-k
 decreases-loop-k l = l.checkers - l.k

@@ -8,7 +8,7 @@ use Rattle.rules.specs.Rules.{marks}
 use Rattle.lent_totals.proofs.marks.store_counts.Given as goal
 
 abbrev pub invariant-loop-i : goal.invariant-loop-i
-invariant-loop-i l = (l.counts ≡ paste l.found 0 l.initial.counts l.i) × (l.i ≤ marks) × (length l.counts ≡ length l.found)
+invariant-loop-i l = (l.counts ≡ paste l.initial.counts 0 l.found l.i) × (l.i ≤ marks) × (length l.counts ≡ length l.initial.counts)
 
 abbrev pub decreases-loop-i : goal.decreases-loop-i
 decreases-loop-i l = marks - l.i

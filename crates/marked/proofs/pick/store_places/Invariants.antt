@@ -4,7 +4,7 @@ use Rattle.marked.proofs.Places.{Storing}
 use Rattle.marked.proofs.pick.store_places.Given as goal
 
 abbrev pub invariant-loop-rest : goal.invariant-loop-rest
-invariant-loop-rest l = Storing l.width l.first l.marks l.at l.initial.picked l.picked l.rest l.next
+invariant-loop-rest l = Storing l.width l.first l.marks l.initial.picked l.at l.picked l.rest l.next
 
 abbrev pub decreases-loop-rest : goal.decreases-loop-rest
 decreases-loop-rest l = l.rest

@@ -7,7 +7,7 @@ use Rattle.marks_args.proofs.Laws as laws
 use Rattle.marks_args.proofs.wires.put_wires.Given as goal
 
 abbrev pub invariant-loop-k : goal.invariant-loop-k
-invariant-loop-k l = (l.k ≤ l.initial.wires) × (with_wires l.first l.code l.low l.count l.initial.wires ≡ with_wires l.wires (l.code + l.k) l.low (l.count + l.k) (l.initial.wires - l.k))
+invariant-loop-k l = (l.k ≤ l.count) × (with_wires l.initial.wires l.first l.code l.low l.count ≡ with_wires l.wires (l.first + l.k) l.code (l.low + l.k) (l.count - l.k))
 
 abbrev pub decreases-loop-k : goal.decreases-loop-k
-decreases-loop-k l = l.initial.wires - l.k
+decreases-loop-k l = l.count - l.k

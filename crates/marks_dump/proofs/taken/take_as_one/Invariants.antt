@@ -7,7 +7,7 @@ use Rattle.marks_dump.proofs.Laws as laws
 use Rattle.marks_dump.proofs.taken.take_as_one.Given as goal
 
 abbrev pub invariant-loop-t : goal.invariant-loop-t
-invariant-loop-t l = (l.t ≤ l.initial.frames) × (length l.frames ≡ length l.bits) × (with_bits l.bits 0 l.n l.initial.frames ≡ with_bits l.frames l.t l.n (l.initial.frames - l.t))
+invariant-loop-t l = (l.t ≤ l.n) × (length l.frames ≡ length l.initial.frames) × (with_bits l.initial.frames 0 l.bits l.n ≡ with_bits l.frames l.t l.bits (l.n - l.t))
 
 abbrev pub decreases-loop-t : goal.decreases-loop-t
-decreases-loop-t l = l.initial.frames - l.t
+decreases-loop-t l = l.n - l.t

@@ -6,4 +6,4 @@ abbrev pub invariant-loop-wire : goal.invariant-loop-wire
 invariant-loop-wire l = Unit {0}
 
 abbrev pub decreases-loop-wire : goal.decreases-loop-wire
-decreases-loop-wire l = l.initial.line - l.wire
+decreases-loop-wire l = l.right - l.wire

@@ -4,7 +4,7 @@ use lib.ListN.{length}
 use Rattle.marks_line.proofs.line.put.Given as goal
 
 abbrev pub invariant-loop-i : goal.invariant-loop-i
-invariant-loop-i l = l.i ≤ length l.initial.line
+invariant-loop-i l = l.i ≤ length l.text
 
 abbrev pub decreases-loop-i : goal.decreases-loop-i
-decreases-loop-i l = length l.initial.line - l.i
+decreases-loop-i l = length l.text - l.i

@@ -10,7 +10,7 @@ use Rattle.blocks.specs.Blocks.{entries_from, Passing}
 use Rattle.passes.proofs.write.write_all.Given as goal
 
 abbrev pub invariant-loop-t : goal.invariant-loop-t
-invariant-loop-t l = (l.t ≤ frames l.trace) × Passing l.c l.trace l.t l.word × Stored (entries_from l.c (frame_at l.trace) 0 l.t) l.cycles 0 l.list l.at × (length l.picked ≡ block_cycles)
+invariant-loop-t l = (l.t ≤ frames l.trace) × Passing l.c l.trace l.t l.word × Stored (entries_from l.c (frame_at l.trace) 0 l.t) l.initial.list 0 l.list l.at × (length l.picked ≡ block_cycles)
 
 abbrev pub decreases-loop-t : goal.decreases-loop-t
-decreases-loop-t l = l.initial.list - l.t
+decreases-loop-t l = l.cycles - l.t

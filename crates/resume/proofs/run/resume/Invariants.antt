@@ -5,7 +5,7 @@ use Rattle.resume.proofs.Going.{Going}
 use Rattle.resume.proofs.run.resume.Given as goal
 
 abbrev pub invariant-loop-t : goal.invariant-loop-t
-invariant-loop-t l = Going l.c l.trace l.a l.b l.word l.n l.rows l.words l.t l.own l.kept l.tally.counts
+invariant-loop-t l = Going l.c l.trace l.initial.rows l.initial.words l.a l.b l.rows l.words l.t l.own l.kept l.tally.counts
 
 abbrev pub decreases-loop-t : goal.decreases-loop-t
-decreases-loop-t l = l.initial.words - l.t
+decreases-loop-t l = l.n - l.t

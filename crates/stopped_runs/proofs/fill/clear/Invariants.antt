@@ -4,7 +4,7 @@ use Rattle.trace.specs.Runs.{Written}
 use Rattle.stopped_runs.proofs.fill.clear.Given as goal
 
 abbrev pub invariant-loop-k : goal.invariant-loop-k
-invariant-loop-k l = (l.to ≤ l.k) × (l.k ≤ l.initial.rows) × (Written (λ (j : ℕ). 0) l.to l.k l.at l.rows)
+invariant-loop-k l = (l.at ≤ l.k) × (l.k ≤ l.to) × (Written (λ (j : ℕ). 0) l.at l.k l.initial.rows l.rows)
 
 abbrev pub decreases-loop-k : goal.decreases-loop-k
-decreases-loop-k l = l.initial.rows - l.k
+decreases-loop-k l = l.to - l.k

@@ -5,7 +5,7 @@ use Rattle.trace.specs.Runs.{Written}
 use Rattle.stopped_runs.proofs.fill.stop.Given as goal
 
 abbrev pub invariant-loop-k : goal.invariant-loop-k
-invariant-loop-k l = (l.to ≤ l.k) × (l.k ≤ l.initial.words) × (Written (λ (j : ℕ). stopped_word) l.to l.k l.at l.words)
+invariant-loop-k l = (l.at ≤ l.k) × (l.k ≤ l.to) × (Written (λ (j : ℕ). stopped_word) l.at l.k l.initial.words l.words)
 
 abbrev pub decreases-loop-k : goal.decreases-loop-k
-decreases-loop-k l = l.initial.words - l.k
+decreases-loop-k l = l.to - l.k

@@ -5,7 +5,7 @@ use Rattle.trace.specs.Stretches.{Staying}
 use Rattle.stopped_runs.proofs.seek.seek.Given as goal
 
 abbrev pub invariant-loop-at : goal.invariant-loop-at
-invariant-loop-at l = Staying l.initial.at l.initial.words true l.initial.kept l.to l.initial.rows l.rows l.words l.at l.kept
+invariant-loop-at l = Staying l.initial.at l.to true l.initial.kept l.initial.rows l.initial.words l.rows l.words l.at l.kept
 
 abbrev pub decreases-loop-at : goal.decreases-loop-at
-decreases-loop-at l = l.initial.words - l.at
+decreases-loop-at l = l.to - l.at

@@ -8,7 +8,7 @@ use Rattle.rules.specs.Rules.{marks}
 use Rattle.stored_changes.proofs.changes.store_changes.Given as goal
 
 abbrev pub invariant-loop-i : goal.invariant-loop-i
-invariant-loop-i l = (l.answer ≡ paste l.end 1 l.initial.answer l.i) × (l.i ≤ marks) × (length l.answer ≡ length l.end)
+invariant-loop-i l = (l.answer ≡ paste l.initial.answer 1 l.changes l.i) × (l.i ≤ marks) × (length l.answer ≡ length l.initial.answer)
 
 abbrev pub decreases-loop-i : goal.decreases-loop-i
 decreases-loop-i l = marks - l.i

@@ -10,9 +10,9 @@ use Rattle.trace.proofs.Running.{reached}
 use Rattle.time_fatal.proofs.fill.fill.Given as goal
 
 abbrev pub invariant-loop-at : goal.invariant-loop-at
-invariant-loop-at l = Running (fatally l.c) l.trace l.from l.to (record { from = from; at = at₀; to = to; stops = false; word = word₀; kept = l.initial.at }) l.rows l.words
-    (reached l.at l.word (kept_from l.to l.initial.rows l.initial.at l.at))
+invariant-loop-at l = Running (fatally l.c) l.trace l.initial.rows l.initial.words (record { from = from; at = at₀; to = to; stops = false; word = word₀; kept = l.kept }) l.rows l.words
+    (reached l.at l.word (kept_from l.initial.words l.initial.at l.kept l.at))
     × (l.word ≡ stopped_word → ⊥)
 
 abbrev pub decreases-loop-at : goal.decreases-loop-at
-decreases-loop-at l = l.last - l.at
+decreases-loop-at l = l.to - l.at

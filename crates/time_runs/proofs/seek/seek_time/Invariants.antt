@@ -7,7 +7,7 @@ use Rattle.trace.proofs.Running.{reached}
 use Rattle.time_runs.proofs.seek.seek_time.Given as goal
 
 abbrev pub invariant-loop-at : goal.invariant-loop-at
-invariant-loop-at l = Running l.c l.trace l.from l.to (record { from = from; at = at₀; to = to; stops = true; word = word₀; kept = l.initial.kept }) l.rows l.words (reached l.at l.word l.kept)
+invariant-loop-at l = Running l.c l.trace l.initial.rows l.initial.words (record { from = from; at = at₀; to = to; stops = true; word = word₀; kept = l.initial.kept }) l.rows l.words (reached l.at l.word l.kept)
 
 abbrev pub decreases-loop-at : goal.decreases-loop-at
-decreases-loop-at l = l.initial.words - l.at
+decreases-loop-at l = l.to - l.at

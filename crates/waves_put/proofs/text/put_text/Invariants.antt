@@ -5,7 +5,7 @@ use Rattle.waves_put.proofs.Putting.{Putting}
 use Rattle.waves_put.proofs.text.put_text.Given as goal
 
 abbrev pub invariant-loop-i : goal.invariant-loop-i
-invariant-loop-i l = (l.i ≤ length l.text) × Putting l.text l.at l.initial.out (drop l.i l.text) l.out (l.initial.out + l.i)
+invariant-loop-i l = (l.i ≤ length l.text) × Putting l.text l.initial.out l.at (drop l.i l.text) l.out (l.at + l.i)
 
 abbrev pub decreases-loop-i : goal.decreases-loop-i
 decreases-loop-i l = length l.text - l.i

@@ -8,7 +8,7 @@ use Rattle.word_bytes.specs.Bytes.{bytes_of}
 use Rattle.word_bytes.proofs.bytes.store.Given as goal
 
 abbrev pub invariant-loop-i : goal.invariant-loop-i
-invariant-loop-i l = (l.bytes ≡ bytes_of l.i l.initial.bytes ++ drop l.i l.word) × (l.rest ≡ l.initial.bytes / 256 ^ l.i) × (l.i ≤ 8) × (length l.bytes ≡ length l.word)
+invariant-loop-i l = (l.bytes ≡ bytes_of l.i l.word ++ drop l.i l.initial.bytes) × (l.rest ≡ l.word / 256 ^ l.i) × (l.i ≤ 8) × (length l.bytes ≡ length l.initial.bytes)
 
 abbrev pub decreases-loop-i : goal.decreases-loop-i
 decreases-loop-i l = 8 - l.i
