@@ -5,6 +5,9 @@ Run it once, at the top of a checkout that port.py has turned. It goes over the 
 must-fail edits of every crate. A name is taken if an .antt file of the repository has it as a word, it begins with a small letter and has a large one
 that does not stand behind an underscore. Types, modules, constructors of Rust's enums, strings and the functions of src/ keep their names.
 
+Then the names that specs/ declares lose their dashes: `rows-kept` becomes `rows_kept`. The lemmas of proofs/ keep theirs, which join the parts of what a
+lemma says, as in `length-insert`.
+
 It ends with an error, and changes nothing, if a new name stands already in some file or two names fall together."""
 import glob
 import re
@@ -30,6 +33,24 @@ OTHER = {
     "oneEnd": "sought_one_end",
     "startState": "in_start_state",
     "twoEnds": "sought_two_ends",
+    "withAReference": "with_a_reference",
+}
+
+
+# what specs/ declares with dashes, and the names that stand already without them
+DECLARED = re.compile(
+    r"^\s*(?:(?:pub|abbrev|unfoldable)\s+)+(?:record\s+|data\s+)?([a-z][A-Za-z0-9_']*(?:-[A-Za-z0-9_']+)+)\s*[:({]|^  ([a-z][A-Za-z0-9_']*(?:-[A-Za-z0-9_']+)+) :",
+    re.M,
+)
+DASHED = re.compile(r"(?<![A-Za-z0-9_'-])[A-Za-z_][A-Za-z0-9_']*(?:-[A-Za-z0-9_']+)+(?![A-Za-z0-9_'-])")
+TICKED = re.compile(r"`[^`]*`")
+WITHOUT_DASHES = {
+    "all-good": "all_are_good",
+    "one-checker": "for_one_checker",
+    "open-stamp": "at_open_stamp",
+    "open-word": "at_open_word",
+    "text-is": "text_equals",
+    "vector-is": "vector_equals",
 }
 
 
@@ -63,6 +84,57 @@ def turn(text, table, keep_strings):
     return "".join(out)
 
 
+def declared(files):
+    found = set()
+    for f in files:
+        for m in DECLARED.finditer(open(f).read()):
+            found.add(m.group(1) or m.group(2))
+    return {name: WITHOUT_DASHES.get(name, name.replace("-", "_")) for name in found}
+
+
+def turn_dashes(text, table, mark):
+    def word(m):
+        return table.get(m.group(0), m.group(0))
+
+    def code_of(code):
+        # what a program writes stays
+        if mark != "//":
+            return DASHED.sub(word, code)
+        parts, at = [], 0
+        for s in STRING.finditer(code):
+            parts += [DASHED.sub(word, code[at : s.start()]), s.group(0)]
+            at = s.end()
+        return "".join(parts) + DASHED.sub(word, code[at:])
+
+    out = []
+    for line in text.split("\n"):
+        at = line.find(mark) if mark else -1
+        code, comment = (line, "") if at < 0 else (line[:at], line[at:])
+        comment = TICKED.sub(lambda m: DASHED.sub(word, m.group(0)), comment)
+        out.append(code_of(code) + comment)
+    return "\n".join(out)
+
+
+def drop_dashes(antt, rt, edits):
+    table = declared(f for f in antt if "/specs/" in f)
+    standing = {}
+    for f in antt:
+        for word in set(WORD.findall(PATH.sub("", COMMENT.sub("", DASHED.sub("", open(f).read()))))):
+            standing.setdefault(word, f)
+    bad = [f"{a} -> {b}: stands in {standing[b]}" for a, b in table.items() if b in standing]
+    if bad:
+        print("\n".join(sorted(bad)))
+        sys.exit(1)
+    count = 0
+    for f in antt + rt + edits:
+        text = open(f).read()
+        new = turn_dashes(text, table, "--" if f.endswith(".antt") else "//" if f.endswith(".rt") else "")
+        if new != text:
+            open(f, "w").write(new)
+            count += 1
+    print(f"{len(table)} names without dashes, {count} files")
+
+
 def main():
     antt = sorted(glob.glob("crates/*/specs/**/*.antt", recursive=True) + glob.glob("crates/*/proofs/**/*.antt", recursive=True))
     rt = sorted(glob.glob("crates/*/src/**/*.rt", recursive=True))
@@ -90,6 +162,7 @@ def main():
             open(f, "w").write(new)
             count += 1
     print(f"{len(table)} names, {count} files")
+    drop_dashes(antt, rt, edits)
 
 
 main()

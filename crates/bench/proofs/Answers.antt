@@ -19,8 +19,8 @@ module _ (table : List Config) (frames words rows : List ℕ) where
     lengths = λ _. e;
     checkers = λ z. absurd (h (e ∙ ap (λ (x : ℕ). 256 * x) z));
     done = λ z. absurd (h (omega (arith, e)));
-    words-kept = λ _. refl;
-    rows-kept = λ _. refl;
+    words_kept = λ _. refl;
+    rows_kept = λ _. refl;
   }
 
   module _ (answer : ℕ) (e : answer ≡ 256 * lengths_of) (z : answer ≡ 0) where
@@ -34,13 +34,13 @@ module _ (table : List Config) (frames words rows : List ℕ) where
     module _ (bad : ℕ) (tested : Tested table words bad) where
       -- refused for a checker
       pub bad-answer : (bad ≡ 0 → ⊥) → BenchAnswer table frames words rows words rows bad
-      bad-answer h = record { lengths = λ n. absurd (n fits); checkers = λ _. tested; done = λ q. absurd (h q); words-kept = λ _. refl; rows-kept = λ _. refl }
+      bad-answer h = record { lengths = λ n. absurd (n fits); checkers = λ _. tested; done = λ q. absurd (h q); words_kept = λ _. refl; rows_kept = λ _. refl }
 
       module _ (good : bad ≡ 0) where
         pub step-asks : Steppable table frames words rows
         step-asks =
             let f = fitting (length table) (length frames) (length words) (length rows) fits in
-            record { frames-length = f.frames-are; words-length = f.words_are; rows-length = f.rows_are; all-good = tested.all-good good }
+            record { frames_length = f.frames_are; words_length = f.words_are; rows_length = f.rows_are; all_are_good = tested.all_are_good good }
 
         -- every checker is stepped
         pub done-answer : (words' rows' : List ℕ) → Stepped table frames words rows words' rows' → BenchAnswer table frames words rows words' rows' 0
@@ -48,6 +48,6 @@ module _ (table : List Config) (frames words rows : List ℕ) where
           lengths = λ n. absurd (n fits);
           checkers = λ _. subst⁻¹ (Tested table words) (sym good) tested;
           done = λ _. stepped;
-          words-kept = λ h. absurd (h refl);
-          rows-kept = λ h. absurd (h refl);
+          words_kept = λ h. absurd (h refl);
+          rows_kept = λ h. absurd (h refl);
         }

@@ -30,15 +30,15 @@ pub record FirstBad (table : List Config) (words : List ℕ) (refusal checker : 
 
 -- An answer is 256 times the refusal and the bad checker's number, or 0.
 pub record Tested (table : List Config) (words : List ℕ) (answer : ℕ) : Type 0 where
-  pub all-good : answer ≡ 0 → (k : ℕ) → k < length table → refusal_at table words k ≡ 0
-  pub first-bad : (answer ≡ 0 → ⊥) → FirstBad table words (answer / 256) (answer % 256)
+  pub all_are_good : answer ≡ 0 → (k : ℕ) → k < length table → refusal_at table words k ≡ 0
+  pub first_bad : (answer ≡ 0 → ⊥) → FirstBad table words (answer / 256) (answer % 256)
 
 -- ---- the step
 
 -- "Every word and row becomes what that checker's one step gives."
 pub record Stepped (table : List Config) (frames words rows words' rows' : List ℕ) : Type 0 where
-  pub words-length : length words' ≡ length words
-  pub rows-length : length rows' ≡ length rows
+  pub words_length : length words' ≡ length words
+  pub rows_length : length rows' ≡ length rows
   pub words_are : (k : ℕ) → k < length table → get_or words' k 0 ≡ step_word (checker_at table k) (get_or words k 0) (frame_at frames k)
   pub rows_are : (k : ℕ) → k < length table → get_or rows' k 0 ≡ step_row (checker_at table k) (get_or words k 0) (frame_at frames k)
 
@@ -48,12 +48,12 @@ pub record BenchAnswer (table : List Config) (frames words rows words' rows' : L
       → answer ≡ 256 * lengths_refusal (length table) (length frames) (length words) (length rows)
   pub checkers : lengths_refusal (length table) (length frames) (length words) (length rows) ≡ 0 → Tested table words answer
   pub done : answer ≡ 0 → Stepped table frames words rows words' rows'
-  pub words-kept : (answer ≡ 0 → ⊥) → words' ≡ words
-  pub rows-kept : (answer ≡ 0 → ⊥) → rows' ≡ rows
+  pub words_kept : (answer ≡ 0 → ⊥) → words' ≡ words
+  pub rows_kept : (answer ≡ 0 → ⊥) → rows' ≡ rows
 
 -- what the loop over the checkers asks: the lengths fit, and no checker is bad
 pub record Steppable (table : List Config) (frames words rows : List ℕ) : Type 0 where
-  pub frames-length : length frames ≡ frame_words * length table
-  pub words-length : length words ≡ length table
-  pub rows-length : length rows ≡ length table
-  pub all-good : (k : ℕ) → k < length table → refusal_at table words k ≡ 0
+  pub frames_length : length frames ≡ frame_words * length table
+  pub words_length : length words ≡ length table
+  pub rows_length : length rows ≡ length table
+  pub all_are_good : (k : ℕ) → k < length table → refusal_at table words k ≡ 0

@@ -22,7 +22,7 @@ module _ (checkers frames words rows : ℕ) where
   -- lengths that are not refused
   pub record Fitting : Type 0 where
     pub few : checkers ≤ 64
-    pub frames-are : frames ≡ frame_words * checkers
+    pub frames_are : frames ≡ frame_words * checkers
     pub words_are : words ≡ checkers
     pub rows_are : rows ≡ checkers
 
@@ -36,7 +36,7 @@ module _ (checkers frames words rows : ℕ) where
           let two = and_right (eqb frames (frame_words * checkers)) (eqb words checkers && eqb rows checkers) all in
           record {
             few = leb-true checkers 64 few;
-            frames-are = eqb→eq frames (frame_words * checkers) (and_left (eqb frames (frame_words * checkers)) (eqb words checkers && eqb rows checkers) all);
+            frames_are = eqb→eq frames (frame_words * checkers) (and_left (eqb frames (frame_words * checkers)) (eqb words checkers && eqb rows checkers) all);
             words_are = eqb→eq words checkers (and_left (eqb words checkers) (eqb rows checkers) two);
             rows_are = eqb→eq rows checkers (and_right (eqb words checkers) (eqb rows checkers) two);
           }

@@ -111,7 +111,7 @@ module _ {c : Config} {trace : List ℕ} {t m : ℕ} {rows words picked : List �
   where
     word-here : (k : ℕ) → k ≤ m → word_in word words k ≡ word_before c (frame_at trace) (t + k)
     unfolding word_in
-    word-here zero l = p.word-is ∙ ap (word_before c (frame_at trace)) (sym (add-zero t))
+    word-here zero l = p.word_is ∙ ap (word_before c (frame_at trace)) (sym (add-zero t))
     word-here (suc k) l = b.words_are k l
 
     -- whether it has failed before cycle k
@@ -121,15 +121,15 @@ module _ {c : Config} {trace : List ℕ} {t m : ℕ} {rows words picked : List �
     here : (k : ℕ) (r : Cycle) → k < m → CycleIn trace t word rows words k r → failed_by k ≡ false → Here c trace (t + k) r
     unfolding row
     here k r l f on =
-        let is = f.word-is ∙ word-here k (omega arith) ∙ before-going c (frame_at trace) (t + k) on in
-        rw (f.t-is, is, f.frame_is, f.row_is)
+        let is = f.word_is ∙ word-here k (omega arith) ∙ before-going c (frame_at trace) (t + k) on in
+        rw (f.t_is, is, f.frame_is, f.row_is)
         (record {
           ready = record {
             good = p.good;
-            possible-word = going_before c p.good (frame_at trace) (t + k);
+            possible_word = going_before c p.good (frame_at trace) (t + k);
             placed = before-placed c p.good (frame_at trace) (t + k);
             row_is = b.rows_are k l ∙ rw on (going-row c p.good (frame_at trace) (t + k));
-            low = omega (arith, b.in-trace, p.short);
+            low = omega (arith, b.in_trace, p.short);
           };
           entries = step-entries c (frame_at trace) (t + k) p.good on;
         })
@@ -148,7 +148,7 @@ module _ {c : Config} {trace : List ℕ} {t m : ℕ} {rows words picked : List �
     unmarked k l z =
         ⊎_elim (no-failures c (frame_at trace) (t + k))
         (λ (on : failed_by k ≡ false).
-        let h = here k (cycle_at k) l (record { t-is = refl; word-is = refl; frame_is = refl; row_is = refl }) on in
+        let h = here k (cycle_at k) l (record { t_is = refl; word_is = refl; frame_is = refl; row_is = refl }) on in
         sym h.entries
         ∙ no-entries c (word_in word words k) (frame_at trace (t + k)) (get_or rows k 0) (t + k) h.ready (eqb-true (get_or rows k 0 % 4) 0 (not-false _ z)))
         (either (failed_by k))
@@ -200,7 +200,7 @@ module _ {c : Config} {trace : List ℕ} {t m : ℕ} {rows words picked : List �
       next-entries = of-next c (frame_at trace) t picked i in-picked
 
       pub picked-in : (i < block_cycles) × (get_or picked i 0 < block_cycles) × (t + get_or picked i 0 < frames trace) × (frames trace ≤ 65536)
-      picked-in = (omega (arith, b.picks.few, b.short), omega (arith, held.0, b.short), omega (arith, held.0, b.in-trace), p.short)
+      picked-in = (omega (arith, b.picks.few, b.short), omega (arith, held.0, b.short), omega (arith, held.0, b.in_trace), p.short)
 
       module _ {r : Cycle} (h : Here c trace (t + get_or picked i 0) r) where
         abbrev entries_here : List Entry
@@ -229,7 +229,7 @@ module _ {c : Config} {trace : List ℕ} {t m : ℕ} {rows words picked : List �
               omega (
                 arith,
                 fits,
-                s.next-is,
+                s.next_is,
                 stored-length s,
                 ap length h.entries,
                 ap length next-entries,

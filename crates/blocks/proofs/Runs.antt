@@ -35,11 +35,11 @@ module _ {c : Config} {trace : List ℕ} {t word : ℕ} (p : Passing c trace t w
   pub runnable : length rows ≡ block_cycles → length words ≡ block_cycles → Runnable c trace rows words (stretch_from t n word)
   runnable r w = record {
     good = p.good;
-    possible-word = rw p.word-is (before-possible c p.good (frame_at trace) t);
+    possible_word = rw p.word_is (before-possible c p.good (frame_at trace) t);
     low = zero-le;
-    rows-hold = omega (arith, short, r);
-    words-hold = omega (arith, short, w);
-    in-trace = within;
+    rows_hold = omega (arith, short, r);
+    words_hold = omega (arith, short, w);
+    in_trace = within;
     short = p.short;
   }
 
@@ -48,11 +48,11 @@ module _ {c : Config} {trace : List ℕ} {t word : ℕ} (p : Passing c trace t w
     end = ran-all ran refl
 
     enters : word ≡ word_before c (frame_at trace) (t + 0)
-    enters = p.word-is ∙ ap (word_before c (frame_at trace)) (sym (add-zero t))
+    enters = p.word_is ∙ ap (word_before c (frame_at trace)) (sym (add-zero t))
 
     pub block-ran : {picked : List ℕ} {marked : ℕ} → Picks rows' n picked marked → Block c trace t n rows' words' picked marked
     block-ran picks = record {
-      in-trace = within;
+      in_trace = within;
       short = short;
       rows_are = λ k h.
           ran.come.rows_are.within k zero-le (omega (arith, h, end)) ∙ stretch-rows c p.good trace (stretch_from t n word) enters k zero-le;
@@ -65,7 +65,7 @@ module _ {c : Config} {trace : List ℕ} {t word : ℕ} (p : Passing c trace t w
     passed = record {
       good = p.good;
       short = p.short;
-      word-is =
-          ran.come.word-is ∙ stretch-words c p.good trace (stretch_from t n word) enters r.at zero-le
+      word_is =
+          ran.come.word_is ∙ stretch-words c p.good trace (stretch_from t n word) enters r.at zero-le
           ∙ ap (λ (k : ℕ). word_before c (frame_at trace) (t + k)) end;
     }

@@ -57,7 +57,7 @@ module _ (c : Config) (tr : Trace) where
           let rest : t + k + (n - (t + k)) ≡ n = omega arith in
           omega (
             arith,
-            s.next-is,
+            s.next_is,
             stored-length s,
             more-length t k,
             rw rest at (more-length (t + k) (n - (t + k))),

@@ -23,11 +23,11 @@ pub record Counted (c : Config) (tr : Trace) (t m count : ℕ) : Type 0 where
 pub record Passing (c : Config) (trace : List ℕ) (t word : ℕ) : Type 0 where
   pub good : Good c
   pub short : frames trace ≤ 65536
-  pub word-is : word ≡ word_before c (frame_at trace) t
+  pub word_is : word ≡ word_before c (frame_at trace) t
 
 -- a block that was run, the m cycles from t on: its rows and words, and the n rows that have mark 1 or 2
 pub record Block (c : Config) (trace : List ℕ) (t m : ℕ) (rows words picked : List ℕ) (n : ℕ) : Type 0 where
-  pub in-trace : t + m ≤ frames trace
+  pub in_trace : t + m ≤ frames trace
   pub short : m ≤ block_cycles
   pub rows_are : (k : ℕ) → k < m → get_or rows k 0 ≡ row c (frame_at trace) (t + k)
   pub words_are : (k : ℕ) → k < m → get_or words k 0 ≡ word_before c (frame_at trace) (t + suc k)
@@ -40,7 +40,7 @@ word_in word words (suc k) = get_or words k 0
 
 -- cycle k of a block from t on: its number, the word before it, its frame and its row
 pub record CycleIn (trace : List ℕ) (t word : ℕ) (rows words : List ℕ) (k : ℕ) (r : Cycle) : Type 0 where
-  pub t-is : r.t ≡ t + k
-  pub word-is : r.word ≡ word_in word words k
+  pub t_is : r.t ≡ t + k
+  pub word_is : r.word ≡ word_in word words k
   pub frame_is : r.frame ≡ frame_at trace (t + k)
   pub row_is : r.row ≡ get_or rows k 0

@@ -31,7 +31,7 @@ module _ {c : Config} {f : Frame} {bytes : List ℕ} where
   refused : {r : ℕ} → step_refusal c bytes ≡ r → (r ≡ 0 → ⊥) → ByteStep c f bytes bytes (256 * r)
   refused e h =
       let n : eqb (step_refusal c bytes) 0 ≡ false = ne_eqb (step_refusal c bytes) 0 (λ z. h (sym e ∙ z)) in
-      record { answer-is = simp n (omega arith); bytes-are = simp n }
+      record { answer_is = simp n (omega arith); bytes_are = simp n }
 
   pub config-refused : {r : ℕ} → r ≡ config_refusal c → (r ≡ 0 → ⊥) → ByteStep c f bytes bytes (256 * r)
   unfolding step_refusal
@@ -50,8 +50,8 @@ module _ {c : Config} {f : Frame} {bytes : List ℕ} where
         let n : step_refusal c bytes ≡ 0 = by_word bytes good eight loaded s ∙ z in
         let k : eqb (word_refusal c w) 0 ≡ true = eq-eqb (word_refusal c w) 0 (sym s.refusal_is ∙ z) in
         let row_is : row ≡ step_row c w f = simp k at s.row_is in
-        let word-is : m.word ≡ step_word c w f = simp k at s.word-is in
+        let word_is : m.word ≡ step_word c w f = simp k at s.word_is in
         record {
-          answer-is = simp n (row_is ∙ ap (λ (x : ℕ). step_row c x f) loaded ∙ sym (zero-add (step_row c (word_of bytes) f)));
-          bytes-are = simp n (stored ∙ ap (bytes_of 8) (word-is ∙ ap (λ (x : ℕ). step_word c x f) loaded));
+          answer_is = simp n (row_is ∙ ap (λ (x : ℕ). step_row c x f) loaded ∙ sym (zero-add (step_row c (word_of bytes) f)));
+          bytes_are = simp n (stored ∙ ap (bytes_of 8) (word_is ∙ ap (λ (x : ℕ). step_word c x f) loaded));
         }

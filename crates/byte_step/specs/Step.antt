@@ -14,5 +14,5 @@ step_refusal c bytes =
 
 -- "it writes the next word there and answers 256 times the refusal number plus the row"; "A refusal writes nothing; every other number answered is 0"
 pub record ByteStep (c : Config) (f : Frame) (before after : List ℕ) (answer : ℕ) : Type 0 where
-  pub answer-is : answer ≡ 256 * step_refusal c before + cond (eqb (step_refusal c before) 0) (step_row c (word_of before) f) 0
-  pub bytes-are : after ≡ cond (eqb (step_refusal c before) 0) (bytes_of 8 (step_word c (word_of before) f)) before
+  pub answer_is : answer ≡ 256 * step_refusal c before + cond (eqb (step_refusal c before) 0) (step_row c (word_of before) f) 0
+  pub bytes_are : after ≡ cond (eqb (step_refusal c before) 0) (bytes_of 8 (step_word c (word_of before) f)) before

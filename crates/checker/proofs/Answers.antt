@@ -29,31 +29,31 @@ module _ (c : Config) (w : ℕ) where
       → StepAnswer c w f refused 0 (record { config = c; word = w })
   step-refused f refused e h =
       let n : eqb (word_refusal c w) 0 ≡ false = ne_eqb (word_refusal c w) 0 (λ z. h (e ∙ z)) in
-      record { refusal_is = e; row_is = simp n; word-is = simp n; config-is = refl }
+      record { refusal_is = e; row_is = simp n; word_is = simp n; config_is = refl }
 
   pub step-taken : (f : Frame) (row next : ℕ) → word_refusal c w ≡ 0 → Steps c w f row next
       → StepAnswer c w f 0 row (record { config = c; word = next })
   step-taken f row next z s =
       let n : eqb (word_refusal c w) 0 ≡ true = eq-eqb (word_refusal c w) 0 z in
-      record { refusal_is = sym z; row_is = rw n s.row_is; word-is = rw n s.word-is; config-is = refl }
+      record { refusal_is = sym z; row_is = rw n s.row_is; word_is = rw n s.word_is; config_is = refl }
 
   pub count-refused : (refused : ℕ) → refused ≡ word_refusal c w → (refused ≡ 0 → ⊥) → CountAnswer c w refused 0
   count-refused refused e h =
       let n : eqb (word_refusal c w) 0 ≡ false = ne_eqb (word_refusal c w) 0 (λ z. h (e ∙ z)) in
-      record { refusal_is = e; count-is = simp n }
+      record { refusal_is = e; count_is = simp n }
 
   -- a fatal checker that has failed
   pub count-stopped : word_refusal c w ≡ 0 → w ≡ stopped_word → CountAnswer c w 0 0
   unfolding open_count
   count-stopped z e =
       let n : eqb (word_refusal c w) 0 ≡ true = eq-eqb (word_refusal c w) 0 z in
-      record { refusal_is = sym z; count-is = rw (n, eq-eqb w stopped_word e) refl }
+      record { refusal_is = sym z; count_is = rw (n, eq-eqb w stopped_word e) refl }
 
   pub count-taken : (k : Family) (count : ℕ) → family c.kind ≡ k → word_refusal c w ≡ 0 → (w ≡ stopped_word → ⊥) → count ≡ open_count_of k w
       → CountAnswer c w 0 count
   count-taken k count f z other e =
       let n : eqb (word_refusal c w) 0 ≡ true = eq-eqb (word_refusal c w) 0 z in
-      record { refusal_is = sym z; count-is = rw n (e ∙ count-are c w k f other) }
+      record { refusal_is = sym z; count_is = rw n (e ∙ count-are c w k f other) }
 
   -- kinds 3 to 8: 1 when a check is unfinished
   pub count-one : (count : ℕ) → 3 ≤ c.kind → c.kind < 9 → word_refusal c w ≡ 0 → (w ≡ stopped_word → ⊥) → count ≡ to_bit (not (eqb w 0))

@@ -11,10 +11,10 @@ use Rattle.rules.specs.Possible.{open_count, word_refusal}
 pub record StepAnswer (c : Config) (w : ℕ) (f : Frame) (refusal row : ℕ) (next : Monitor) : Type 0 where
   pub refusal_is : refusal ≡ word_refusal c w
   pub row_is : row ≡ cond (eqb (word_refusal c w) 0) (step_row c w f) 0
-  pub word-is : next.word ≡ cond (eqb (word_refusal c w) 0) (step_word c w f) w
-  pub config-is : next.config ≡ c
+  pub word_is : next.word ≡ cond (eqb (word_refusal c w) 0) (step_word c w f) w
+  pub config_is : next.config ≡ c
 
 -- "Open count of a possible word"
 pub record CountAnswer (c : Config) (w refusal count : ℕ) : Type 0 where
   pub refusal_is : refusal ≡ word_refusal c w
-  pub count-is : count ≡ cond (eqb (word_refusal c w) 0) (open_count c w) 0
+  pub count_is : count ≡ cond (eqb (word_refusal c w) 0) (open_count c w) 0

@@ -18,4 +18,4 @@ module _ (c : Config) (w : ℕ) (f : Frame) (on : c.severity ≡ 0) where
   -- out of reset: the step of the kind's family
   pub steps_of : (k : Family) (row next : ℕ) → up f ≡ true → family c.kind ≡ k → StepsTo k c w f row next → Steps c w f row next
   unfolding going_step_row going_step_word
-  steps_of k row next e fam s = goes-steps c on w f row next (rw (e, fam) s.row_is) (rw (e, fam) s.word-is)
+  steps_of k row next e fam s = goes-steps c on w f row next (rw (e, fam) s.row_is) (rw (e, fam) s.word_is)

@@ -239,7 +239,7 @@ module _ (c : Config) (w : ℕ) (f : Frame) (row t : ℕ) (r : Ready c w f row t
     unfolding possible_of
     window-start = (
       r.placed.window fam window-pends,
-      leb→le w c.n (subst T (sym (possible-are c w time fam)) r.possible-word),
+      leb→le w c.n (subst T (sym (possible-are c w time fam)) r.possible_word),
       (time-config c r.good fam).high,
     )
 
@@ -333,19 +333,19 @@ module _ (c : Config) (w : ℕ) (f : Frame) (row t : ℕ) (r : Ready c w f row t
     pub value_low : (w ≤ c.n) × (c.n ≤ max_window) × (0 < w → c.n < w + t)
     unfolding possible_of
     value_low = (
-      leb→le w c.n (subst T (sym (possible-are c w value fam)) r.possible-word),
+      leb→le w c.n (subst T (sym (possible-are c w value fam)) r.possible_word),
       (value-config c r.good fam).high,
       r.placed.tracked fam,
     )
 
-    pub value-is : 0 < row % 4 → step_entries c w f t ≡ entry t 1 (trigger_of w value_low.0 value_low.2) ∷ []
+    pub value_is : 0 < row % 4 → step_entries c w f t ≡ entry t 1 (trigger_of w value_low.0 value_low.2) ∷ []
     unfolding failed_of step_marks_of tracked_marks
-    value-is h = triggered-is w value_low.0 value_low.2 value fam h refl (λ u. refl)
+    value_is h = triggered-is w value_low.0 value_low.2 value fam h refl (λ u. refl)
 
   module _ (fam : family c.kind ≡ stability) where
     pub stability-low : (left_in w ≤ c.n) × (c.n ≤ max_window) × (0 < left_in w → c.n < left_in w + t)
     stability-low = (
-      (word-parts c w fam (stability-config c r.good fam).high r.possible-word).left-low,
+      (word-parts c w fam (stability-config c r.good fam).high r.possible_word).left-low,
       (stability-config c r.good fam).high,
       r.placed.compared fam,
     )
@@ -362,7 +362,7 @@ module _ (c : Config) (w : ℕ) (f : Frame) (row t : ℕ) (r : Ready c w f row t
       ⊎_elim
       (λ (q : c.kind ≡ 8). let fam = family-stability c.kind q in single-counts stability fam h refl _ (stability-is fam h))
       (λ (b : c.kind < 8).
-      ⊎_elim (λ (q : c.kind ≡ 7). let fam = family-value c.kind q in single-counts value fam h refl _ (value-is fam h))
+      ⊎_elim (λ (q : c.kind ≡ 7). let fam = family-value c.kind q in single-counts value fam h refl _ (value_is fam h))
       (λ (b' : c.kind < 7).
       ⊎_elim (λ (q : c.kind ≡ 6). transition-counts (family-transition c.kind q) h)
       (λ (b'' : c.kind < 6). window-counts (family-time c.kind l b'') h) (eq-or-lt_of_le (le_of_suc-le-suc b')))

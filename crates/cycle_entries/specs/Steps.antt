@@ -15,7 +15,7 @@ step_entries c w f t = map (entry t 1) (chosen (suc t) (fails c w f t)) ++ map (
 -- a cycle of a run that was not refused and has not failed, with its row
 pub record Ready (c : Config) (w : ℕ) (f : Frame) (row t : ℕ) : Type 0 where
   pub good : Good c
-  pub possible-word : T (going_possible c w)
+  pub possible_word : T (going_possible c w)
   pub placed : Placed c w t
   pub row_is : row ≡ going_step_row c w f
   pub low : t < 65536

@@ -79,7 +79,7 @@ bus = clock "!" ∷ p0 "d" 0 ∷ p1 "d" 1 ∷ p2 "d" 2 ∷ p3 "d" 3 ∷ []
 
 pub record Worked : Type 0 where
   -- 1000 is wire 3 of [3:0], but wire 0 of [0:3]. Stamp 5 is closed by stamp 10, stamp 15 by the end; `b1` is 0001.
-  pub both-orders :
+  pub both_orders :
       loaded (q0 "u" 0 ∷ q1 "u" 1 ∷ q2 "u" 2 ∷ q3 "u" 3 ∷ bus) 24 (bytes "$scope module top $end\n$var wire 1 ! clk $end\n$var wire 4 d down [3:0] $end\n$scope module in $end\n$var wire 4 u up [0:3] $end\n$upscope $end\n$upscope $end\n$enddefinitions $end\n#0\n0!\nb1000 d\nb1000 u\n#5\n1!\nb1 d\n#10\n0!\n#15\n1!\n")
       ≡ done (frame 0 8 1 0 0 0 ∷ frame 0 1 1 0 0 0 ∷ [])
   -- The clock's step from x to 1 is no edge. `bx1` is xxx1. The reset has no value yet.
@@ -87,22 +87,22 @@ pub record Worked : Type 0 where
       loaded (reset "r" ∷ bus) 8 (bytes "$timescale 1 ns $end\n$var wire 1 ! clk $end\n$var reg 4 d bus $end $var wire 1 r rst_n $end\n$enddefinitions $end\n$dumpvars\nx!\n$end\n#0 1!\n#1 0!\nbx1 d\n#2 1!")
       ≡ done (frame 0 1 0 1 14 0 ∷ [])
   -- Equal stamps in a row are one: the sample is from before both, and there is one.
-  pub equal-stamps : loaded bus 8 (declarations ++ bytes "0! b10 d\n#7 1! b11 d\n#7 0! b100 d\n#07 1!\n#9 0!\n#9\n") ≡ done (frame 0 2 0 0 0 0 ∷ [])
+  pub equal_stamps : loaded bus 8 (declarations ++ bytes "0! b10 d\n#7 1! b11 d\n#7 0! b100 d\n#07 1!\n#9 0!\n#9\n") ≡ done (frame 0 2 0 0 0 0 ∷ [])
   -- Ranges at the end of names: [0:3], [7], and none where a name begins with a backslash. The first range that a code is given counts. A real is skipped.
   pub names :
       loaded (clock "!" ∷ p0 "a" 0 ∷ p1 "m" 7 ∷ p2 "e" 0 ∷ p3 "z" 4 ∷ []) 8 (bytes "$var wire 1 ! clk $end $var wire 4 a bus[0:3] $end $var wire 1 m mem[7] $end\n$var wire 1 e \\odd[5] $end $var wire 4 z one $end\n$var wire 4 z two [4:1] $end $var wire 4 z three [7:4] $end $var real 64 f level[0] $end $comment no $var here $end\n$enddefinitions $end\n#1 0! b1000 a 1m 1e bz000 z r3.5 f\n#2 1!")
       ≡ done (frame 0 7 0 0 8 0 ∷ [])
   -- the clock as a bit of a vector, and a frame with nothing connected
-  pub vector-clock :
+  pub vector_clock :
       loaded (record { entry = 0; code = "d"; index = 2 } ∷ []) 8 (declarations ++ bytes "#0 b1011 d #1 b1111 d #2") ≡ done (frame 0 0 0 0 0 0 ∷ [])
   -- no stamp, so no sample
-  pub no-stamp : loaded bus 8 (declarations ++ bytes "0! 1!") ≡ done []
+  pub no_stamp : loaded bus 8 (declarations ++ bytes "0! 1!") ≡ done []
   -- 4 and 5, before the text is looked at
   pub lengths : (loaded bus 7 (bytes "?") ≡ no 4 0 []) × (load (bytes "?") (zeros 256) (zeros 8) ≡ no 5 0 [])
   -- 10: a word that is not allowed there, in line 4, behind one frame; what follows it does not matter
-  pub ill-formed : loaded bus 8 (declarations ++ bytes "#0 0! #1 1! #2 #3x\n1?\n#1") ≡ no 10 4 (frame 0 0 0 0 15 0 ∷ [])
+  pub ill_formed : loaded bus 8 (declarations ++ bytes "#0 0! #1 1! #2 #3x\n1?\n#1") ≡ no 10 4 (frame 0 0 0 0 15 0 ∷ [])
   -- 10 with the identifier that is not declared, which is `?`, 63
-  pub not-declared : loaded bus 8 (declarations ++ bytes "#0 0!\n1?\n") ≡ record { refusal = 10; line = 5; identifier = 63; frames = [] }
+  pub not_declared : loaded bus 8 (declarations ++ bytes "#0 0!\n1?\n") ≡ record { refusal = 10; line = 5; identifier = 63; frames = [] }
   -- 10 at the code of a vector that is too long; at the `$end` of a name's range of another width
   pub other_width :
       (loaded bus 8 (declarations ++ bytes "#0 b10101\nd\n") ≡ no 10 5 [])
@@ -115,14 +115,14 @@ pub record Worked : Type 0 where
   pub long :
       (loaded bus 8 (declarations ++ bytes "#0 0! b1\n!!!!!!!!! ?") ≡ no 12 5 []) × (loaded bus 8 (bytes "$var wire 04097 ! clk $end") ≡ no 12 1 [])
   -- 13 at the `$end` of `$enddefinitions`: index 4 of [3:0]; a clock that is not connected
-  pub not-connected :
+  pub not_connected :
       (loaded (clock "!" ∷ p0 "d" 4 ∷ []) 8 (bytes "$var wire 1 ! c $end $var reg 4 d b [3:0] $end $enddefinitions\n$end #0 0!") ≡ no 13 2 [])
       × (loaded [] 8 declarations ≡ no 13 3 [])
   -- A real is declared, but not as bits: to connect one is 13.
-  pub real-connected : loaded (clock "!" ∷ p0 "f" 0 ∷ []) 8 (bytes "$var wire 1 ! clk $end\n$var real 64 f level $end\n$enddefinitions $end\n#0 r1 f\n") ≡ no 13 3 []
+  pub real_connected : loaded (clock "!" ∷ p0 "f" 0 ∷ []) 8 (bytes "$var wire 1 ! clk $end\n$var real 64 f level $end\n$enddefinitions $end\n#0 r1 f\n") ≡ no 13 3 []
   -- 14 at a stamp that goes back: it takes no sample
   pub back : loaded bus 8 (declarations ++ bytes "#0 0!\n#2 1!\n#1\n") ≡ no 14 6 []
   -- 16 at what closes the stamp of the second sample: the first frame stays
   pub full : loaded bus 8 (declarations ++ bytes "#0 0! b101 d\n#1 1!\n#2 0!\n#3 1!\n#4\n") ≡ no 16 8 (frame 0 5 0 0 0 0 ∷ [])
   -- 16 at the end
-  pub full-at-the-end : loaded bus 0 (declarations ++ bytes "#0 0!\n#1 1!\n") ≡ no 16 5 []
+  pub full_at_the_end : loaded bus 0 (declarations ++ bytes "#0 0!\n#1 1!\n") ≡ no 16 5 []

@@ -96,16 +96,16 @@ module _ {n : ℕ} {w : Wave} {store digits frames lent : List ℕ} {table : Lis
           let kept = change-kept store h.tabled.long n s.declared table h.tabled.declares h.tabled.connected ds count some enough small x i (named b u coded) refl there s.changed.values h.holds in
           record {
             place_is = refl;
-            identifier-is = h.identifier-is;
+            identifier_is = h.identifier_is;
             many = h.many;
             tabled = tabled-below n store (bits_changed store ds count x i) table s.declared kept.as_long kept.below h.tabled;
             holds = change-holds store h.tabled.long n s.declared table h.tabled.declares h.tabled.connected ds count some enough small x i (named b u coded) refl there s.changed.values h.holds;
             before = λ e. before-kept store (bits_changed store ds count x i) kept s.changed.before (h.before e);
-            dumping-is = h.dumping-is;
-            stamped-is = h.stamped-is;
-            stamp-is = h.stamp-is;
+            dumping_is = h.dumping_is;
+            stamped_is = h.stamped_is;
+            stamp_is = h.stamp_is;
             framed = h.framed;
-            vector-is = λ e. absurd (omega arith);
+            vector_equals = λ e. absurd (omega arith);
           }
 
     known_is : known s.declared x ≡ ltb i n
@@ -126,7 +126,7 @@ module _ {n : ℕ} {w : Wave} {store digits frames lent : List ℕ} {table : Lis
             (cond (a && k) (cond real (goto s 20) (refuse s 10)) (undeclared s x))
         go false k e = unknown h x
         go true false e = unknown h x
-        go true true e = rw (h.tabled.declares.sort-is i (ltb-true i n e)) (sort real)
+        go true true e = rw (h.tabled.declares.sort_is i (ltb-true i n e)) (sort real)
 
     -- A SCALAR of value v
     module _ (v : ℕ) (small : v < 3) where
@@ -154,7 +154,7 @@ module _ {n : ℕ} {w : Wave} {store digits frames lent : List ℕ} {table : Lis
               (cond (a && k && not (eqb width 1)) (refuse s 10) (cond (a && k) (cond (not real && leb 1 width) (with_changed s 20 (D.valued s.changed (changed_to s.declared table s.changed.values x (v ∷ [])))) (refuse s 10)) (undeclared s x)))
           go false a k e = unknown h x
           go true a false e = unknown h x
-          go true a true e = rw (h.tabled.declares.width_is i (ltb-true i n e), h.tabled.declares.sort-is i (ltb-true i n e)) (sort a e (eqb width 1) refl real)
+          go true a true e = rw (h.tabled.declares.width_is i (ltb-true i n e), h.tabled.declares.sort_is i (ltb-true i n e)) (sort a e (eqb width 1) refl real)
 
     -- A VECTOR'S CODE
     module _ (vector : Vector w.count digits s.changed.vector) where
@@ -199,7 +199,7 @@ module _ {n : ℕ} {w : Wave} {store digits frames lent : List ℕ} {table : Lis
           go true a true e =
               let l : i < n = ltb-true i n e in
               let m : width ≤ 4096 = rw (h.tabled.declares.width_is i l) at (h.tabled.narrow i l) in
-              rw (h.tabled.declares.width_is i l, h.tabled.declares.sort-is i l, too_long width m) (sort a e m real (ltb width w.count) refl)
+              rw (h.tabled.declares.width_is i l, h.tabled.declares.sort_is i l, too_long width m) (sort a e m real (ltb width w.count) refl)
 
     -- THE WHOLE WORD is the code
     module _ (g : Bytes (b ∷ u)) where

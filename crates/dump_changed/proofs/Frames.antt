@@ -56,11 +56,11 @@ module _ (store vs : List ℕ) (holds : Holds 8458 8467 store vs) where
     sampled-filled : C.sample_from store frames count 0 8 ≡ filled (fs ++ (f ∷ [])) lent
     unfolding filled
     sampled-filled =
-        let l : length (joined_frames fs) ≡ 8 * count + 0 = joined_length fs h.whole ∙ omega (arith, h.count-is) in
+        let l : length (joined_frames fs) ≡ 8 * count + 0 = joined_length fs h.whole ∙ omega (arith, h.count_is) in
         let m : 8 * count + 0 + 8 ≤ length frames = omega arith in
         let a : length (joined_frames fs ++ f) ≡ length (joined_frames fs) + 8 = length-append (joined_frames fs) f ∙ omega (arith, frame-length vs) in
-        let front : take (8 * count + 0) frames ≡ joined_frames fs = rw h.frames-are (take_at (joined_frames fs) (drop (length (joined_frames fs)) lent) (8 * count + 0) l) in
-        let back : drop (8 * count + 0) frames ≡ drop (length (joined_frames fs)) lent = rw h.frames-are (drop_at (joined_frames fs) (drop (length (joined_frames fs)) lent) (8 * count + 0) l) in
+        let front : take (8 * count + 0) frames ≡ joined_frames fs = rw h.frames_are (take_at (joined_frames fs) (drop (length (joined_frames fs)) lent) (8 * count + 0) l) in
+        let back : drop (8 * count + 0) frames ≡ drop (length (joined_frames fs)) lent = rw h.frames_are (drop_at (joined_frames fs) (drop (length (joined_frames fs)) lent) (8 * count + 0) l) in
         sampled-words count frames
         ∙ sets-eq f frames (8 * count + 0) (rw (frame-length vs) m)
         ∙ rw (frame-length vs, joined-more fs f, a, front, ← drop-drop 8 (8 * count + 0) frames, back, drop-drop 8 (length (joined_frames fs)) lent)
@@ -68,8 +68,8 @@ module _ (store vs : List ℕ) (holds : Holds 8458 8467 store vs) where
     pub framed-more : Framed (count + 1) (C.sample_from store frames count 0 8) lent (fs ++ (f ∷ []))
     framed-more = record {
       as_lent = ap length (sampled-words count frames) ∙ length-sets frames (8 * count + 0) f ∙ h.as_lent;
-      count-is = simp length-append (omega (arith, h.count-is));
-      fits = simp length-append (omega (arith, h.count-is, h.as_lent));
+      count_is = simp length-append (omega (arith, h.count_is));
+      fits = simp length-append (omega (arith, h.count_is, h.as_lent));
       whole = whole-more fs f h.whole (frame-length vs);
-      frames-are = sampled-filled;
+      frames_are = sampled-filled;
     }

@@ -15,16 +15,16 @@ pub digits-any : (n : ℕ) (w : Wave) (store digits frames lent : List ℕ) (tab
     → Follows n w store digits frames lent table s → Follows n w store other frames lent table s
 digits-any n w store digits frames lent table s other out many h = record {
   place_is = h.place_is;
-  identifier-is = h.identifier-is;
+  identifier_is = h.identifier_is;
   many = many;
   tabled = h.tabled;
   holds = h.holds;
   before = h.before;
-  dumping-is = h.dumping-is;
-  stamped-is = h.stamped-is;
-  stamp-is = h.stamp-is;
+  dumping_is = h.dumping_is;
+  stamped_is = h.stamped_is;
+  stamp_is = h.stamp_is;
   framed = h.framed;
-  vector-is = λ e. absurd (out e);
+  vector_equals = λ e. absurd (out e);
 }
 
 module _ {n : ℕ} {w : Wave} {store digits frames lent : List ℕ} {table : List Pair} {s : State} (h : Follows n w store digits frames lent table s) where
@@ -32,31 +32,31 @@ module _ {n : ℕ} {w : Wave} {store digits frames lent : List ℕ} {table : Lis
   pub moved : (m : ℕ) → (m ≡ 21 → ⊥) → Follows n (C.at w m) store digits frames lent table (goto s m)
   moved m out = record {
     place_is = refl;
-    identifier-is = h.identifier-is;
+    identifier_is = h.identifier_is;
     many = h.many;
     tabled = h.tabled;
     holds = h.holds;
     before = h.before;
-    dumping-is = h.dumping-is;
-    stamped-is = h.stamped-is;
-    stamp-is = h.stamp-is;
+    dumping_is = h.dumping_is;
+    stamped_is = h.stamped_is;
+    stamp_is = h.stamp_is;
     framed = h.framed;
-    vector-is = λ e. absurd (out e);
+    vector_equals = λ e. absurd (out e);
   }
 
   pub unknown : (x : ℕ) → Follows n (C.unknown_code w x) store digits frames lent table (undeclared s x)
   unknown x = record {
     place_is = refl;
-    identifier-is = refl;
+    identifier_is = refl;
     many = h.many;
     tabled = h.tabled;
     holds = h.holds;
     before = h.before;
-    dumping-is = h.dumping-is;
-    stamped-is = h.stamped-is;
-    stamp-is = h.stamp-is;
+    dumping_is = h.dumping_is;
+    stamped_is = h.stamped_is;
+    stamp_is = h.stamp_is;
     framed = h.framed;
-    vector-is = λ e. absurd (omega arith);
+    vector_equals = λ e. absurd (omega arith);
   }
 
   pub ill : Follows n (C.at w 110) store digits frames lent table (goto s 110)

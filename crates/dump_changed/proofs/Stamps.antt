@@ -40,13 +40,13 @@ rise stamped been x x' y y' e f g = rw (e, g) (go (eqb stamped 0) refl)
 
 -- what is kept of a number says whether it is one of at most 64 bits, and which
 record Numbered (n : Number) (v : List ℕ) : Type 0 where
-  test-is : eqb n.state 1 ≡ is_number v && ltb (value 0 v) (2 ^ 64)
-  value-is : is_number v && ltb (value 0 v) (2 ^ 64) ≡ true → n.value ≡ value 0 v
+  test_is : eqb n.state 1 ≡ is_number v && ltb (value 0 v) (2 ^ 64)
+  value_is : is_number v && ltb (value 0 v) (2 ^ 64) ≡ true → n.value ≡ value 0 v
 
 numbered_is : (v : List ℕ) → Numbered (numbered v) v
 unfolding numbered is_number
-numbered_is [] = record { test-is = refl; value-is = λ e. let z : ◌≡◌ {A = ℕ} 0 1 = cc in absurd (omega arith) }
-numbered_is (b ∷ v) = record { test-is = test (is_number (b ∷ v)) (ltb (value 0 (b ∷ v)) (2 ^ 64)); value-is = is (is_number (b ∷ v)) (ltb (value 0 (b ∷ v)) (2 ^ 64)) }
+numbered_is [] = record { test_is = refl; value_is = λ e. let z : ◌≡◌ {A = ℕ} 0 1 = cc in absurd (omega arith) }
+numbered_is (b ∷ v) = record { test_is = test (is_number (b ∷ v)) (ltb (value 0 (b ∷ v)) (2 ^ 64)); value_is = is (is_number (b ∷ v)) (ltb (value 0 (b ∷ v)) (2 ^ 64)) }
   where
     test : (x y : Bool) → eqb (cond x (cond y (record { value = value 0 (b ∷ v); state = 1 }) (record { value = 0; state = 2 })) lost).state 1 ≡ x && y
     test false y = refl
@@ -64,10 +64,10 @@ module _ {n : ℕ} {w : Wave} {store digits frames lent : List ℕ} {table : Lis
 
   rises-is : C.rises w store ≡ D.rose s.changed
   unfolding C.rises D.rose
-  rises-is = rise w.stamped s.changed.stamped (get_or store 8467 0) (get_or s.changed.before 0 2) (get_or store 8466 0) (get_or s.changed.values 0 2) h.stamped-is (λ z. (h.before z).clock-is) h.holds.clock-is
+  rises-is = rise w.stamped s.changed.stamped (get_or store 8467 0) (get_or s.changed.before 0 2) (get_or store 8466 0) (get_or s.changed.values 0 2) h.stamped_is (λ z. (h.before z).clock_is) h.holds.clock_is
 
   room-is : ltb w.frames (length frames / 8) ≡ ltb (length s.changed.frames) room
-  room-is = rw (h.framed.count-is, h.framed.as_lent)
+  room-is = rw (h.framed.count_is, h.framed.as_lent)
 
   -- CLOSED with a sample
   sampled-follows : C.rises w store ≡ true → w.frames < length frames / 8
@@ -75,16 +75,16 @@ module _ {n : ℕ} {w : Wave} {store digits frames lent : List ℕ} {table : Lis
   unfolding C.rises
   sampled-follows r l = record {
     place_is = h.place_is;
-    identifier-is = h.identifier-is;
+    identifier_is = h.identifier_is;
     many = h.many;
     tabled = h.tabled;
     holds = h.holds;
     before = h.before;
-    dumping-is = h.dumping-is;
-    stamped-is = h.stamped-is;
-    stamp-is = h.stamp-is;
+    dumping_is = h.dumping_is;
+    stamped_is = h.stamped_is;
+    stamp_is = h.stamp_is;
     framed = framed-more store s.changed.before (h.before (stamped (eqb w.stamped 0) refl r)) lent frames s.changed.frames w.frames h.framed l;
-    vector-is = λ e. absurd (omega arith);
+    vector_equals = λ e. absurd (omega arith);
   }
     where
       stamped : (t : Bool) → eqb w.stamped 0 ≡ t → cond t false (cond (eqb (get_or store 8467 0) 0) (eqb (get_or store 8466 0) 1) false) ≡ true → w.stamped ≡ 0 → ⊥
@@ -113,16 +113,16 @@ module _ {n : ℕ} {w : Wave} {store digits frames lent : List ℕ} {table : Lis
   opened-follows : (v : ℕ) (r : Wave) (fr : List ℕ) (z : State) → Follows n r store digits fr lent table z → Follows n (C.stamped_at r v) (C.opened store) digits fr lent table (with_changed z 20 (D.stamped_at v z.changed))
   opened-follows v r fr z k = record {
     place_is = refl;
-    identifier-is = k.identifier-is;
+    identifier_is = k.identifier_is;
     many = k.many;
     tabled = tabled_opened n store table z.declared k.tabled;
     holds = opened-now store k.tabled.long z.changed.values k.holds;
     before = λ e. opened-before store k.tabled.long z.changed.values k.holds;
-    dumping-is = k.dumping-is;
-    stamped-is = refl;
-    stamp-is = refl;
+    dumping_is = k.dumping_is;
+    stamped_is = refl;
+    stamp_is = refl;
     framed = k.framed;
-    vector-is = λ e. absurd (omega arith);
+    vector_equals = λ e. absurd (omega arith);
   }
 
   next-follows : (v : ℕ) → Follows n (C.next_wave w v store frames) (C.next_store w store frames) digits (C.next_frames w store frames) lent table (D.closing table room s (λ z. with_changed z 20 (D.stamped_at v z.changed)))
@@ -136,8 +136,8 @@ module _ {n : ℕ} {w : Wave} {store digits frames lent : List ℕ} {table : Lis
   stamp-at : (v : ℕ) → Follows n (C.stamp_wave w v store frames) (C.stamp_store w v store frames) digits (C.stamp_frames w v store frames) lent table (D.stamp_at table room s v)
   unfolding C.stamp_wave C.stamp_store C.stamp_frames C.stamp_order D.stamp_at
   stamp-at v =
-      let back : (s.changed.stamped && ltb v s.changed.stamp) ≡ (not (eqb w.stamped 0) && ltb v w.stamp) = ap₂ (λ (x : Bool) (y : ℕ). x && ltb v y) h.stamped-is h.stamp-is in
-      let equal : (s.changed.stamped && eqb v s.changed.stamp) ≡ (not (eqb w.stamped 0) && eqb v w.stamp) = ap₂ (λ (x : Bool) (y : ℕ). x && eqb v y) h.stamped-is h.stamp-is in
+      let back : (s.changed.stamped && ltb v s.changed.stamp) ≡ (not (eqb w.stamped 0) && ltb v w.stamp) = ap₂ (λ (x : Bool) (y : ℕ). x && ltb v y) h.stamped_is h.stamp_is in
+      let equal : (s.changed.stamped && eqb v s.changed.stamp) ≡ (not (eqb w.stamped 0) && eqb v w.stamp) = ap₂ (λ (x : Bool) (y : ℕ). x && eqb v y) h.stamped_is h.stamp_is in
       rw (back, equal) (go (eqb w.stamped 0) (ltb v w.stamp) (eqb v w.stamp))
     where
       go : (x y z : Bool)
@@ -154,7 +154,7 @@ module _ {n : ℕ} {w : Wave} {store digits frames lent : List ℕ} {table : Lis
       → Follows n (C.on_stamp w number store frames) (C.on_stamp_store w number store frames) digits (C.on_stamp_frames w number store frames) lent table (D.on_stamp table room s v)
   unfolding C.on_stamp C.on_stamp_store C.on_stamp_frames D.on_stamp
   stamp-number number v k =
-      let test : (not s.changed.dumping && is_number v && ltb (value 0 v) (2 ^ 64)) ≡ (eqb w.dumping 0 && eqb number.state 1) = tests s.changed.dumping (eqb w.dumping 0) (is_number v) (ltb (value 0 v) (2 ^ 64)) h.dumping-is ∙ ap (λ (x : Bool). eqb w.dumping 0 && x) (sym k.test-is) in
+      let test : (not s.changed.dumping && is_number v && ltb (value 0 v) (2 ^ 64)) ≡ (eqb w.dumping 0 && eqb number.state 1) = tests s.changed.dumping (eqb w.dumping 0) (is_number v) (ltb (value 0 v) (2 ^ 64)) h.dumping_is ∙ ap (λ (x : Bool). eqb w.dumping 0 && x) (sym k.test_is) in
       rw test (go (eqb w.dumping 0) (eqb number.state 1) refl)
     where
       tests : (x d a c : Bool) → x ≡ not d → (not x && a && c) ≡ (d && (a && c))
@@ -164,7 +164,7 @@ module _ {n : ℕ} {w : Wave} {store digits frames lent : List ℕ} {table : Lis
       go : (x y : Bool) → eqb number.state 1 ≡ y
           → Follows n (cond x (cond y (C.stamp_wave w number.value store frames) (C.at w 110)) (C.at w 110)) (cond x (cond y (C.stamp_store w number.value store frames) store) store) digits
           (cond x (cond y (C.stamp_frames w number.value store frames) frames) frames) lent table (cond (x && y) (D.stamp_at table room s (value 0 v)) (refuse s 10))
-      go true true e = rw (← k.value-is (sym k.test-is ∙ e)) (stamp-at number.value)
+      go true true e = rw (← k.value_is (sym k.test_is ∙ e)) (stamp-at number.value)
       go true false e = ill h
       go false y e = ill h
 

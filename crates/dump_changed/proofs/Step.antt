@@ -51,16 +51,16 @@ module _ {n : ℕ} {w : Wave} {store digits frames lent : List ℕ} {table : Lis
 
     stamp : b ≡ 35 → Changes (D.on_stamp table room s v)
     unfolding C.change_wave C.change_store C.change_frames
-    stamp q = let (c, m) = kept.stamp-is e q in rw c (stamp-follows h e number v m)
+    stamp q = let (c, m) = kept.stamp_is e q in rw c (stamp-follows h e number v m)
 
     vector : eqb b 98 || eqb b 66 ≡ true → Changes (D.on_vector table room s v)
     unfolding C.change_wave C.change_store C.change_frames
-    vector q = let (c, m) = kept.vector-is e q in rw c (vector-follows h v count wrong m)
+    vector q = let (c, m) = kept.vector_equals e q in rw c (vector-follows h v count wrong m)
 
     text : (b ≡ 35 → ⊥) → eqb b 98 || eqb b 66 ≡ false
         → Changes (cond (eqb b 36) (D.on_dollar table room s (b ∷ v)) (cond (eqb b 114 || eqb b 82) (D.on_real table room s v) (cond (ltb (D.value_of b) 3) (D.on_scalar table room s (D.value_of b) v) (refuse s 10))))
     unfolding C.change_wave C.change_store C.change_frames
-    text f q = let (c, m) = kept.other-is e f q in rw (c, m) (text-follows h b v kept.bytes)
+    text f q = let (c, m) = kept.other_is e f q in rw (c, m) (text-follows h b v kept.bytes)
 
     change : Changes (D.on_change table room s (b ∷ v))
     unfolding D.on_change
@@ -79,15 +79,15 @@ module _ {n : ℕ} {w : Wave} {store digits frames lent : List ℕ} {table : Lis
 
   at-21 : w.place ≡ 21 → Done
   unfolding C.word_wave C.word_store C.word_frames C.code_wave C.code_store step
-  at-21 e = simp (kept.text-is (λ f. omega arith), is e, due e) (vector-code-follows h b v kept.bytes (h.vector-is e))
+  at-21 e = simp (kept.text_equals (λ f. omega arith), is e, due e) (vector-code-follows h b v kept.bytes (h.vector_equals e))
 
   at-22 : w.place ≡ 22 → Done
   unfolding C.word_wave C.word_store C.word_frames C.code_wave C.code_store step
-  at-22 e = simp (kept.text-is (λ f. omega arith), is e, due e) (real-code-follows h b v kept.bytes)
+  at-22 e = simp (kept.text_equals (λ f. omega arith), is e, due e) (real-code-follows h b v kept.bytes)
 
   at-23 : w.place ≡ 23 → Done
   unfolding C.word_wave C.word_store C.word_frames C.code_wave C.code_store step
-  at-23 e = simp (kept.text-is (λ f. omega arith), is e, due e) (comment-follows h (b ∷ v) kept.bytes)
+  at-23 e = simp (kept.text_equals (λ f. omega arith), is e, due e) (comment-follows h (b ∷ v) kept.bytes)
 
   pub changed-step : 20 ≤ w.place → w.place ≤ 23
       → Follows n (C.word_wave w class t number count wrong n store frames) (C.word_store w class t number n store digits frames) digits (C.word_frames w class number store frames) lent table (step table (length lent / 8) s (b ∷ v))

@@ -34,7 +34,7 @@ all_small (b ∷ v) e (suc k) l = all_small v (both (ltb (D.value_of b) 3) (D.al
 -- what is kept of the digits of a vector
 module _ (v : List ℕ) (count wrong : ℕ) (digits : List ℕ) (k : Spelled v count wrong digits) where
   counts : (count ≤ 4096 → count ≡ length v) × ((4096 < count → 4096 < length v) × (0 < length v → 0 < count))
-  counts = go (ltb (length v) 4097) refl k.count-is
+  counts = go (ltb (length v) 4097) refl k.count_is
     where
       go : (t : Bool) → ltb (length v) 4097 ≡ t → count ≡ cond t (length v) 4097 → (count ≤ 4096 → count ≡ length v) × ((4096 < count → 4096 < length v) × (0 < length v → 0 < count))
       go true e f = (λ l. f, (λ l. omega arith, λ l. omega arith))
@@ -81,24 +81,24 @@ module _ {n : ℕ} {w : Wave} {store digits frames lent : List ℕ} {table : Lis
       → Follows n (record { place = 21; identifier = w.identifier; dumping = w.dumping; count = count; stamped = w.stamped; stamp = w.stamp; frames = w.frames }) store digits frames lent table (with_changed s 21 (D.spelled s.changed ds))
   vector-due count ds k = record {
     place_is = refl;
-    identifier-is = h.identifier-is;
+    identifier_is = h.identifier_is;
     many = h.many;
     tabled = h.tabled;
     holds = h.holds;
     before = h.before;
-    dumping-is = h.dumping-is;
-    stamped-is = h.stamped-is;
-    stamp-is = h.stamp-is;
+    dumping_is = h.dumping_is;
+    stamped_is = h.stamped_is;
+    stamp_is = h.stamp_is;
     framed = h.framed;
-    vector-is = λ e. k;
+    vector_equals = λ e. k;
   }
 
   pub vector-follows : (v : List ℕ) (count wrong : ℕ) → Spelled v count wrong digits → Follows n (C.on_vector w count wrong) store digits frames lent table (D.on_vector table room s v)
   unfolding C.on_vector D.on_vector
-  vector-follows [] count wrong k = rw (eq-eqb count 0 k.count-is) (ill h)
+  vector-follows [] count wrong k = rw (eq-eqb count 0 k.count_is) (ill h)
   vector-follows (b ∷ v) count wrong k =
       let some : 0 < count = (counts (b ∷ v) count wrong digits k).1.1 (omega arith) in
-      rw (ne_eqb count 0 (λ z. omega arith), k.wrong-is) (go (D.all_values (b ∷ v)) refl)
+      rw (ne_eqb count 0 (λ z. omega arith), k.wrong_is) (go (D.all_values (b ∷ v)) refl)
     where
       go : (t : Bool) → D.all_values (b ∷ v) ≡ t
           → Follows n (cond t (record { place = 21; identifier = w.identifier; dumping = w.dumping; count = count; stamped = w.stamped; stamp = w.stamp; frames = w.frames }) (C.at w 110)) store digits frames lent table
@@ -110,16 +110,16 @@ module _ {n : ℕ} {w : Wave} {store digits frames lent : List ℕ} {table : Lis
   dumps-follow : (d : ℕ) (t : Bool) → t ≡ not (eqb d 0) → Follows n (C.dumps w d) store digits frames lent table (with_changed s 20 (D.dumps s.changed t))
   dumps-follow d t e = record {
     place_is = refl;
-    identifier-is = h.identifier-is;
+    identifier_is = h.identifier_is;
     many = h.many;
     tabled = h.tabled;
     holds = h.holds;
     before = h.before;
-    dumping-is = e;
-    stamped-is = h.stamped-is;
-    stamp-is = h.stamp-is;
+    dumping_is = e;
+    stamped_is = h.stamped_is;
+    stamp_is = h.stamp_is;
     framed = h.framed;
-    vector-is = λ e. absurd (omega arith);
+    vector_equals = λ e. absurd (omega arith);
   }
 
   module _ (u : List ℕ) (g : Bytes u) where
@@ -154,7 +154,7 @@ module _ {n : ℕ} {w : Wave} {store digits frames lent : List ℕ} {table : Lis
 
     dollar-follows : Follows n (C.on_dollar w t) store digits frames lent table (D.on_dollar table room s u)
     unfolding C.on_dollar D.on_dollar
-    dollar-follows = go (eqb w.dumping 0) s.changed.dumping h.dumping-is
+    dollar-follows = go (eqb w.dumping 0) s.changed.dumping h.dumping_is
       where
         go : (d x : Bool) → x ≡ not d
             → Follows n (cond d (cond (text_in t C.dump_words) (C.dumps w 1) (cond (text_is t 8 8389754676499669796 0) (C.at w 23) (C.at w 110))) (C.in_dump w t)) store digits frames lent table

@@ -27,10 +27,10 @@ Whole (f ∷ fs) = (length f ≡ 8) × Whole fs
 -- the frames fs that were sampled, in front of what was lent
 pub record Framed (count : ℕ) (frames lent : List ℕ) (fs : List (List ℕ)) : Type 0 where
   pub as_lent : length frames ≡ length lent
-  pub count-is : count ≡ length fs
+  pub count_is : count ≡ length fs
   pub fits : length fs ≤ length lent / 8
   pub whole : Whole fs
-  pub frames-are : frames ≡ filled fs lent
+  pub frames_are : frames ≡ filled fs lent
 
 -- the digits of the vector whose code is due; of one that is longer than any wire, only that
 pub record Vector (count : ℕ) (digits vector : List ℕ) : Type 0 where
@@ -42,27 +42,27 @@ pub record Vector (count : ℕ) (digits vector : List ℕ) : Type 0 where
 -- n codes are declared; `lent` is what the frames held at first
 pub record Follows (n : ℕ) (w : Wave) (store digits frames lent : List ℕ) (table : List Pair) (s : State) : Type 0 where
   pub place_is : s.place ≡ w.place
-  pub identifier-is : s.identifier ≡ w.identifier
+  pub identifier_is : s.identifier ≡ w.identifier
   pub many : length digits ≡ 4096
   pub tabled : Tabled n store table s.declared
   pub holds : Holds 8450 8466 store s.changed.values
   pub before : (w.stamped ≡ 0 → ⊥) → Holds 8458 8467 store s.changed.before
-  pub dumping-is : s.changed.dumping ≡ not (eqb w.dumping 0)
-  pub stamped-is : s.changed.stamped ≡ not (eqb w.stamped 0)
-  pub stamp-is : s.changed.stamp ≡ w.stamp
+  pub dumping_is : s.changed.dumping ≡ not (eqb w.dumping 0)
+  pub stamped_is : s.changed.stamped ≡ not (eqb w.stamped 0)
+  pub stamp_is : s.changed.stamp ≡ w.stamp
   pub framed : Framed w.frames frames lent s.changed.frames
-  pub vector-is : w.place ≡ 21 → Vector w.count digits s.changed.vector
+  pub vector_equals : w.place ≡ 21 → Vector w.count digits s.changed.vector
 
 -- WHAT IS KEPT of the digits v of a vector
 pub record Spelled (v : List ℕ) (count wrong : ℕ) (digits : List ℕ) : Type 0 where
-  pub count-is : count ≡ cond (ltb (length v) 4097) (length v) 4097
-  pub wrong-is : eqb wrong 0 ≡ all_values v
+  pub count_is : count ≡ cond (ltb (length v) 4097) (length v) 4097
+  pub wrong_is : eqb wrong 0 ≡ all_values v
   pub digits_are : length v ≤ 4096 → take (length v) digits ≡ map value_of v
 
 -- and of the word b ∷ v where `place` is due
 pub record Kept (place b : ℕ) (v : List ℕ) (class : ℕ) (t : Text) (number : Number) (count wrong : ℕ) (digits : List ℕ) : Type 0 where
   pub bytes : Bytes (b ∷ v)
-  pub stamp-is : place ≡ 20 → b ≡ 35 → (class ≡ 2) × (number ≡ number_of no_number v)
-  pub vector-is : place ≡ 20 → eqb b 98 || eqb b 66 ≡ true → (class ≡ 4) × Spelled v count wrong digits
-  pub other-is : place ≡ 20 → (b ≡ 35 → ⊥) → eqb b 98 || eqb b 66 ≡ false → (class ≡ 1) × (t ≡ text_of no_text (b ∷ v))
-  pub text-is : (place ≡ 20 → ⊥) → t ≡ text_of no_text (b ∷ v)
+  pub stamp_is : place ≡ 20 → b ≡ 35 → (class ≡ 2) × (number ≡ number_of no_number v)
+  pub vector_equals : place ≡ 20 → eqb b 98 || eqb b 66 ≡ true → (class ≡ 4) × Spelled v count wrong digits
+  pub other_is : place ≡ 20 → (b ≡ 35 → ⊥) → eqb b 98 || eqb b 66 ≡ false → (class ≡ 1) × (t ≡ text_of no_text (b ∷ v))
+  pub text_equals : (place ≡ 20 → ⊥) → t ≡ text_of no_text (b ∷ v)

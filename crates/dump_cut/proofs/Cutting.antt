@@ -34,7 +34,7 @@ use Rattle.dump_cut.proofs.SoFar.{meets-so-far}
 -- AN ANSWER THAT STANDS
 stands : (s : State) → (s.refusal ≡ 0 → ⊥) → Stands s (standing s)
 unfolding piece_of end_of tested
-stands s h = record { further-piece = λ bytes frames. rw (ne_eqb s.refusal 0 h) refl; further-end = λ frames. rw (ne_eqb s.refusal 0 h) refl }
+stands s h = record { further_piece = λ bytes frames. rw (ne_eqb s.refusal 0 h) refl; further_end = λ frames. rw (ne_eqb s.refusal 0 h) refl }
 
 -- WHAT STANDS, by the tests of a call
 module _ (s : State) (frames : List ℕ) (reads : Given) where
@@ -84,9 +84,9 @@ end_kept s frames = tested-stands s frames (ends_with s frames) (λ h. rw (ne_eq
 pub over : Over
 over =
     record {
-      refused-piece = λ s bytes frames h. standing-as (piece_of s bytes frames).read.state (piece_of s bytes frames).read.answer (piece-kept s bytes frames h) h;
+      refused_piece = λ s bytes frames h. standing-as (piece_of s bytes frames).read.state (piece_of s bytes frames).read.answer (piece-kept s bytes frames h) h;
       refused_end = λ s frames h. standing-as (end_of s frames).read.state (end_of s frames).read.answer (end_kept s frames h) h;
-      accepted-end = λ s frames e. standing-as (end_of s frames).read.state (record { refusal = 17; frames = (end_of s frames).read.answer.frames; line = 0; identifier = 0 }) (accepted-standing s frames e) (λ z. omega (arith, z));
+      accepted_end = λ s frames e. standing-as (end_of s frames).read.state (record { refusal = 17; frames = (end_of s frames).read.answer.frames; line = 0; identifier = 0 }) (accepted-standing s frames e) (λ z. omega (arith, z));
     }
 
 -- THE PIECES, one behind the other. What the calls so far have given, and the reader that was fed all their bytes:
@@ -127,7 +127,7 @@ one_piece : (g : Given) (a : All) (piece : List ℕ) → Stage g a → Stage (pi
 one_piece g a piece (goes free fit e z) =
     rw (e, piece-read g.read.state piece g.frames free fit) (fed-stage g.read.state g.frames (feed (held g.read.state g.frames) piece) (feed-length (held g.read.state g.frames) piece) fit)
 one_piece g a piece (over-with h z r e) =
-    rw (feed-refused a piece r, (stands g.read.state h).further-piece piece g.frames, again-is g z) (over-with h z r e)
+    rw (feed-refused a piece r, (stands g.read.state h).further_piece piece g.frames, again-is g z) (over-with h z r e)
 
 all-pieces : (pieces : List (List ℕ)) (g : Given) (a : All) → Stage g a → Stage (through g pieces) (feed a (joined pieces))
 unfolding through joined feed
@@ -142,13 +142,13 @@ stage-gives g a (over-with h z r e) = e
 stage-ends : (g : Given) (a : All) → Stage g a → Gives (ends g) (finish a)
 unfolding finish end_of
 stage-ends g a (goes free fit e z) = rw (e, tested_reads g.read.state g.frames free (ends_with g.read.state g.frames) fit) (record { answers = refl; leaves = refl })
-stage-ends g a (over-with h z r e) = rw (r, (stands g.read.state h).further-end g.frames, again-is g z) e
+stage-ends g a (over-with h z r e) = rw (r, (stands g.read.state h).further_end g.frames, again-is g z) e
 
 -- A REFUSAL BY LENGTH stands from the first call on
 standing-through : (pieces : List (List ℕ)) (g : Given) → (g.read.state.refusal ≡ 0 → ⊥) → g.read.answer ≡ standing g.read.state → through g pieces ≡ g
 unfolding through
 standing-through [] g h e = refl
-standing-through (piece ∷ pieces) g h e = rw ((stands g.read.state h).further-piece piece g.frames, again-is g e) (standing-through pieces g h e)
+standing-through (piece ∷ pieces) g h e = rw ((stands g.read.state h).further_piece piece g.frames, again-is g e) (standing-through pieces g h e)
 
 module _ (s : State) (frames : List ℕ) (free : s.refusal ≡ 0) (unfit : length_refusal s.table (length frames) ≡ 0 → ⊥) where
   abbrev refuses : Given
@@ -169,7 +169,7 @@ module _ (s : State) (frames : List ℕ) (free : s.refusal ≡ 0) (unfit : lengt
   ends-refused : (pieces : List (List ℕ)) (answer : Loaded) → ends (through (record { read = record { state = s; answer = answer }; frames = frames }) pieces) ≡ refuses
   unfolding through
   ends-refused [] answer = end_refused
-  ends-refused (piece ∷ pieces) answer = ap ends (pieces-refused piece pieces answer) ∙ (stands refuses.read.state unfit).further-end frames
+  ends-refused (piece ∷ pieces) answer = ap ends (pieces-refused piece pieces answer) ∙ (stands refuses.read.state unfit).further_end frames
 
 -- THE CLAIMS
 abbrev Loads : Answer → List ℕ → Given → Type 0
@@ -178,15 +178,15 @@ Loads a lent g = (g.read.answer ≡ loaded_of a) × (g.frames ≡ filled a.frame
 loads-uncut : (a : Answer) (lent : List ℕ) (g : Given) → Loads a lent g → Uncut a lent g
 loads-uncut a lent g m =
     record {
-      frames-are = m.1;
-      count-is = ap (λ (x : Loaded). x.frames) m.0;
+      frames_are = m.1;
+      count_is = ap (λ (x : Loaded). x.frames) m.0;
       refusal_is = ap (λ (x : Loaded). x.refusal) m.0;
-      line-is = ap (λ (x : Loaded). x.line) m.0;
-      identifier-is = ap (λ (x : Loaded). x.identifier) m.0;
+      line_is = ap (λ (x : Loaded). x.line) m.0;
+      identifier_is = ap (λ (x : Loaded). x.identifier) m.0;
     }
 
 meets-loads : (lent : List ℕ) (z : All) (a : Answer) (g : Given) → Gives g z → Meets lent z a → Loads a lent g
-meets-loads lent z a g e m = (e.answers ∙ m.answer-is, e.leaves ∙ m.frames-are)
+meets-loads lent z a g e m = (e.answers ∙ m.answer_is, e.leaves ∙ m.frames_are)
 
 module _ (wires lent : List ℕ) where
   begun-free : (begun wires).refusal ≡ 0

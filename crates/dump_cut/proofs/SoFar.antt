@@ -17,7 +17,7 @@ use Rattle.dump_reader.specs.Machine.{All, feed}
 use Rattle.dump_read.proofs.Words.{M, m₀, closed, word_byte, fed, fed-words}
 use Rattle.dump_read.proofs.Lines.{started_of}
 use Rattle.dump_load.specs.Loading.{answered, first_all}
-use Rattle.dump_load.proofs.Cores.{Core, all_of, not-refused}
+use Rattle.dump_load.proofs.Cores.{Core, all_of, not_refused}
 use Rattle.dump_load.proofs.Between.{Live, in-declarations, in-changes, Dead, live-due}
 use Rattle.dump_load.proofs.Bytes.{Alike, alive, gone, fed-alike}
 use Rattle.dump_load.proofs.Meets.{Meets, dead-meets, alike-first}
@@ -96,7 +96,7 @@ module _ (table : List Pair) (room : ℕ) where
 
 -- THE ANSWER
 live-framed : (wires lent : List ℕ) (c : Core) (s : State) → Live wires lent c s → Framed c.wave.frames c.frames lent s.changed.frames
-live-framed wires lent c s (in-declarations d) = let g : s.changed.frames ≡ [] = ap (λ (z : State). z.changed.frames) d.state-is in rw (d.no_frames, d.frames-are, g) (framed-none lent)
+live-framed wires lent c s (in-declarations d) = let g : s.changed.frames ≡ [] = ap (λ (z : State). z.changed.frames) d.state-is in rw (d.no_frames, d.frames_are, g) (framed-none lent)
 live-framed wires lent c s (in-changes d) = d.follows.framed
 
 module _ (wires lent : List ℕ) where
@@ -105,7 +105,7 @@ module _ (wires lent : List ℕ) where
   alive-so-far c q r h =
       let (l, m) = live-due wires lent c r.state h in
       let f : Framed c.wave.frames c.frames lent r.state.changed.frames = live-framed wires lent c r.state h in
-      rw (lt-leb 100 r.state.place m) (record { answer-is = rw (not-refused c l q, f.count-is); frames-are = f.frames-are })
+      rw (lt-leb 100 r.state.place m) (record { answer_is = rw (not_refused c l q, f.count_is); frames_are = f.frames_are })
 
   gone-so-far : (c : Core) (r : L.Reading) → Dead lent c r → Meets lent (all_of c []) (so_far r)
   gone-so-far c r d = let h : 100 ≤ r.state.place = omega (arith, d.low, d.place_is) in rw (le-leb 100 r.state.place h) (dead-meets lent c r d)

@@ -12,4 +12,4 @@ use Rattle.dump_cut.specs.SoFar.{spaced, arrived, load_so_far, unended, Worked}
 
 pub worked : Worked
 unfolding frames trace_fits cutting words digits is_number value same one_of is_code code_of right_end left_end bracket name_end in_name name_range fits opens closes declares on_command on_scale on_scope_name on_var_type on_width index_of agrees on_var_code named on_var_name declare_new declare_again declare on_var_end on_range pairs good all_good good_table at_first digit_place digit_at changed_to packed frame_of rose value_of all_values closing stamp_at on_stamp change_bits on_scalar on_vector_code on_real_code on_vector on_real on_dollar on_change on_last_end step read_word read_words reading zeros table spaced arrived load_so_far unended
-worked = record { open-stamp = refl; closed-stamp = refl; open-word = refl; ended-word = refl; unfinished = refl; empty = refl; lengths = refl }
+worked = record { at_open_stamp = refl; closed_stamp = refl; at_open_word = refl; ended_word = refl; unfinished = refl; empty = refl; lengths = refl }

@@ -30,11 +30,11 @@ ends g = end_of g.read.state g.frames
 
 -- "the frames, their count, the refusal, its line and its identifier are those of the uncut dump"
 pub record Uncut (whole : Answer) (lent : List ℕ) (g : Given) : Type 0 where
-  pub frames-are : g.frames ≡ filled whole.frames lent
-  pub count-is : g.read.answer.frames ≡ length whole.frames
+  pub frames_are : g.frames ≡ filled whole.frames lent
+  pub count_is : g.read.answer.frames ≡ length whole.frames
   pub refusal_is : g.read.answer.refusal ≡ whole.refusal
-  pub line-is : g.read.answer.line ≡ whole.line
-  pub identifier-is : g.read.answer.identifier ≡ whole.identifier
+  pub line_is : g.read.answer.line ≡ whole.line
+  pub identifier_is : g.read.answer.identifier ≡ whole.identifier
 
 -- Pieces are bytes. A dump of 2^64 − 1 bytes or more is left out: with as many lines it would have more than the answer can count. Two slices together are shorter.
 abbrev pub EveryCut : Type 0
@@ -52,11 +52,11 @@ EachPiece =
 
 -- each further call on this state, with any bytes and any frames, gives this answer, the state and the frames as they were
 pub record Stands (s : State) (answer : Loaded) : Type 0 where
-  pub further-piece : (bytes frames : List ℕ) → piece_of s bytes frames ≡ record { read = record { state = s; answer = answer }; frames = frames }
-  pub further-end : (frames : List ℕ) → end_of s frames ≡ record { read = record { state = s; answer = answer }; frames = frames }
+  pub further_piece : (bytes frames : List ℕ) → piece_of s bytes frames ≡ record { read = record { state = s; answer = answer }; frames = frames }
+  pub further_end : (frames : List ℕ) → end_of s frames ≡ record { read = record { state = s; answer = answer }; frames = frames }
 
 -- of any state
 pub record Over : Type 0 where
-  pub refused-piece : (s : State) (bytes frames : List ℕ) → ((piece_of s bytes frames).read.answer.refusal ≡ 0 → ⊥) → Stands (piece_of s bytes frames).read.state (piece_of s bytes frames).read.answer
+  pub refused_piece : (s : State) (bytes frames : List ℕ) → ((piece_of s bytes frames).read.answer.refusal ≡ 0 → ⊥) → Stands (piece_of s bytes frames).read.state (piece_of s bytes frames).read.answer
   pub refused_end : (s : State) (frames : List ℕ) → ((end_of s frames).read.answer.refusal ≡ 0 → ⊥) → Stands (end_of s frames).read.state (end_of s frames).read.answer
-  pub accepted-end : (s : State) (frames : List ℕ) → (end_of s frames).read.answer.refusal ≡ 0 → Stands (end_of s frames).read.state (record { refusal = 17; frames = (end_of s frames).read.answer.frames; line = 0; identifier = 0 })
+  pub accepted_end : (s : State) (frames : List ℕ) → (end_of s frames).read.answer.refusal ≡ 0 → Stands (end_of s frames).read.state (record { refusal = 17; frames = (end_of s frames).read.answer.frames; line = 0; identifier = 0 })

@@ -32,11 +32,11 @@ unended room text = load_so_far text (table bus) (zeros room)
 -- Worked by hand: the bytes behind the last white space are nothing yet.
 pub record Worked : Type 0 where
   -- The clock rises at stamp 1, which the word `#2` closes when it has ended, and not before.
-  pub open-stamp : unended 8 (declarations ++ bytes "#0 0! b101 d #1 1! #2") ≡ done []
-  pub closed-stamp : unended 8 (declarations ++ bytes "#0 0! b101 d #1 1! #2\n") ≡ done (frame 0 5 0 0 0 0 ∷ [])
+  pub at_open_stamp : unended 8 (declarations ++ bytes "#0 0! b101 d #1 1! #2") ≡ done []
+  pub closed_stamp : unended 8 (declarations ++ bytes "#0 0! b101 d #1 1! #2\n") ≡ done (frame 0 5 0 0 0 0 ∷ [])
   -- `#1` may become `#10`: only where it has ended does it go back. The frame stays.
-  pub open-word : unended 8 (declarations ++ bytes "#0 0! b101 d #1 1!\n#2\n#1") ≡ done (frame 0 5 0 0 0 0 ∷ [])
-  pub ended-word : unended 8 (declarations ++ bytes "#0 0! b101 d #1 1!\n#2\n#1 #3") ≡ no 14 6 (frame 0 5 0 0 0 0 ∷ [])
+  pub at_open_word : unended 8 (declarations ++ bytes "#0 0! b101 d #1 1!\n#2\n#1") ≡ done (frame 0 5 0 0 0 0 ∷ [])
+  pub ended_word : unended 8 (declarations ++ bytes "#0 0! b101 d #1 1!\n#2\n#1 #3") ≡ no 14 6 (frame 0 5 0 0 0 0 ∷ [])
   -- No end is near: a text that is cut in its declarations, or has none, is not refused.
   pub unfinished : unended 8 (bytes "$var wire 1 ! clk $en") ≡ done []
   pub empty : unended 8 [] ≡ done []

@@ -168,9 +168,9 @@ module _ (h : Head) (store : List ℕ) where
     no-range-at p = ap (ltb 0) (rw (ne_eqb z.phase 4 (λ e. omega arith), ne_eqb z.phase 3 (λ e. omega arith)) at ends)
 
   module _ (b : ℕ) (w : List ℕ) where
-    pub name-is : Bytes (b ∷ w) → Says (C.on_var_name h (text_of no_text (b ∷ w)) (scan_of (first_of_name b) w)) store (D.on_var_name s (b ∷ w))
+    pub name_is : Bytes (b ∷ w) → Says (C.on_var_name h (text_of no_text (b ∷ w)) (scan_of (first_of_name b) w)) store (D.on_var_name s (b ∷ w))
     unfolding C.on_var_name D.on_var_name name_range in_name
-    name-is g = by-test (end_is h store (b ∷ w) g) (says _ _) (name_of (scan_of (first_of_name b) w) (in_name (b ∷ w)) (name-ends b w) (name-fits b w) (name-values b w) (name-none (eqb b 92) (not (eqb b 92)) w))
+    name_is g = by-test (end_is h store (b ∷ w) g) (says _ _) (name_of (scan_of (first_of_name b) w) (in_name (b ∷ w)) (name-ends b w) (name-fits b w) (name-values b w) (name-none (eqb b 92) (not (eqb b 92)) w))
 
     scan-most : (scan_of (first_of_range b) w).phase ≤ 4
     unfolding first_of_range
@@ -181,9 +181,9 @@ module _ (h : Head) (store : List ℕ) where
         go false = omega arith
 
     -- a word that is a range, and any other
-    pub range-is : 3 ≤ (scan_of (first_of_range b) w).phase → Says (C.on_range_word h (scan_of (first_of_range b) w)) store (D.on_range s (b ∷ w))
+    pub range_is : 3 ≤ (scan_of (first_of_range b) w).phase → Says (C.on_range_word h (scan_of (first_of_range b) w)) store (D.on_range s (b ∷ w))
     unfolding D.on_range
-    range-is k = let (e, f) = range_at (scan_of (first_of_range b) w) (bracket (b ∷ w)) (range-ends b w) (range-fits b w) (range-values b w) k scan-most in rw e f
+    range_is k = let (e, f) = range_at (scan_of (first_of_range b) w) (bracket (b ∷ w)) (range-ends b w) (range-fits b w) (range-values b w) k scan-most in rw e f
 
     pub range_none : (scan_of (first_of_range b) w).phase < 3 → D.on_range s (b ∷ w) ≡ D.on_var_end s (b ∷ w)
     unfolding D.on_range

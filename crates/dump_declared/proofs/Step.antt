@@ -20,7 +20,7 @@ use Rattle.dump_declared.specs.Declared.{state_of, Sound, Kept}
 use Rattle.dump_declared.proofs.Says.{Says}
 use Rattle.dump_declared.proofs.Commands.{command-is, comment-is, scale-is, unit-is, command-end-is, scope-type-is, scope-name-is, var-type-is}
 use Rattle.dump_declared.proofs.Vars.{width_is, code_is}
-use Rattle.dump_declared.proofs.Ranges.{name-is, range-is, range_none}
+use Rattle.dump_declared.proofs.Ranges.{name_is, range_is, range_none}
 use Rattle.dump_declared.proofs.Ends.{var-end-is}
 
 -- a number below suc k is k or less
@@ -49,35 +49,35 @@ module _ (table : List Pair) (room : ℕ) (h : Head) (store : List ℕ) (b : ℕ
 
   at-0 : h.place ≡ 0 → Done
   unfolding C.declaration_head C.declaration_store C.in_command step
-  at-0 e = simp (kept.text-is (λ f. omega arith), below e, is e) (command-is h store (b ∷ w) kept.bytes)
+  at-0 e = simp (kept.text_equals (λ f. omega arith), below e, is e) (command-is h store (b ∷ w) kept.bytes)
 
   at_1 : h.place ≡ 1 → Done
   unfolding C.declaration_head C.declaration_store C.in_command step
-  at_1 e = simp (kept.text-is (λ f. omega arith), below e, is e) (comment-is h store (b ∷ w) kept.bytes)
+  at_1 e = simp (kept.text_equals (λ f. omega arith), below e, is e) (comment-is h store (b ∷ w) kept.bytes)
 
   at-2 : h.place ≡ 2 → Done
   unfolding C.declaration_head C.declaration_store C.in_command step
-  at-2 e = simp (kept.text-is (λ f. omega arith), below e, is e) (scale-is h store (b ∷ w) kept.bytes)
+  at-2 e = simp (kept.text_equals (λ f. omega arith), below e, is e) (scale-is h store (b ∷ w) kept.bytes)
 
   at-3 : h.place ≡ 3 → Done
   unfolding C.declaration_head C.declaration_store C.in_command step
-  at-3 e = simp (kept.text-is (λ f. omega arith), below e, is e) (unit-is h store (b ∷ w) kept.bytes)
+  at-3 e = simp (kept.text_equals (λ f. omega arith), below e, is e) (unit-is h store (b ∷ w) kept.bytes)
 
   at-4 : h.place ≡ 4 → Done
   unfolding C.declaration_head C.declaration_store C.in_command step
-  at-4 e = simp (kept.text-is (λ f. omega arith), below e, is e) (command-end-is h store (b ∷ w) kept.bytes)
+  at-4 e = simp (kept.text_equals (λ f. omega arith), below e, is e) (command-end-is h store (b ∷ w) kept.bytes)
 
   at_5 : h.place ≡ 5 → Done
   unfolding C.declaration_head C.declaration_store C.in_command step
-  at_5 e = simp (kept.text-is (λ f. omega arith), below e, is e) (scope-type-is h store (b ∷ w) kept.bytes)
+  at_5 e = simp (kept.text_equals (λ f. omega arith), below e, is e) (scope-type-is h store (b ∷ w) kept.bytes)
 
   at-6 : h.place ≡ 6 → Done
   unfolding C.declaration_head C.declaration_store C.in_command step
-  at-6 e = simp (kept.text-is (λ f. omega arith), below e, is e) (scope-name-is h store (b ∷ w) kept.bytes)
+  at-6 e = simp (kept.text_equals (λ f. omega arith), below e, is e) (scope-name-is h store (b ∷ w) kept.bytes)
 
   at_7 : h.place ≡ 7 → Done
   unfolding C.declaration_head C.declaration_store C.in_var C.ends_var step
-  at_7 e = simp (kept.text-is (λ f. omega arith), below e, is e) (var-type-is h store (b ∷ w) kept.bytes)
+  at_7 e = simp (kept.text_equals (λ f. omega arith), below e, is e) (var-type-is h store (b ∷ w) kept.bytes)
 
   at_8 : h.place ≡ 8 → Done
   unfolding C.declaration_head C.declaration_store C.in_var C.ends_var step
@@ -85,24 +85,24 @@ module _ (table : List Pair) (room : ℕ) (h : Head) (store : List ℕ) (b : ℕ
 
   at_9 : h.place ≡ 9 → Done
   unfolding C.declaration_head C.declaration_store C.in_var C.ends_var step
-  at_9 e = simp (kept.text-is (λ f. omega arith), below e, is e) (code_is h store sound (b ∷ w) kept.bytes)
+  at_9 e = simp (kept.text_equals (λ f. omega arith), below e, is e) (code_is h store sound (b ∷ w) kept.bytes)
 
   at-10 : h.place ≡ 10 → Done
   unfolding C.declaration_head C.declaration_store C.in_var C.ends_var step
-  at-10 e = simp (kept.text-is (λ f. omega arith), kept.name-is e, below e, is e) (name-is h store b w kept.bytes)
+  at-10 e = simp (kept.text_equals (λ f. omega arith), kept.name_is e, below e, is e) (name_is h store b w kept.bytes)
 
   -- a range, or else the end
   at-11 : h.place ≡ 11 → Done
   unfolding C.declaration_head C.declaration_store C.in_var C.ends_var step
-  at-11 e = simp (kept.text-is (λ f. omega arith), kept.range-is e, below e, is e) (go (ltb (scan_of (first_of_range b) w).phase 3) refl)
+  at-11 e = simp (kept.text_equals (λ f. omega arith), kept.range_is e, below e, is e) (go (ltb (scan_of (first_of_range b) w).phase 3) refl)
     where
       go : (y : Bool) → ltb (scan_of (first_of_range b) w).phase 3 ≡ y → Says (cond y (C.end_head h (text_of no_text (b ∷ w)) store) (C.on_range_word h (scan_of (first_of_range b) w))) (cond y (C.end_store h (text_of no_text (b ∷ w)) store) store) (D.on_range (state_of h store) (b ∷ w))
       go true f = rw (range_none h store b w (ltb-true _ 3 f)) (var-end-is h store sound (more (omega arith) (omega arith)) (b ∷ w) kept.bytes)
-      go false f = range-is h store b w (ltb-false _ 3 f)
+      go false f = range_is h store b w (ltb-false _ 3 f)
 
   at-12 : h.place ≡ 12 → Done
   unfolding C.declaration_head C.declaration_store C.in_var C.ends_var step
-  at-12 e = simp (kept.text-is (λ f. omega arith), below e, is e) (var-end-is h store sound (more (omega arith) (omega arith)) (b ∷ w) kept.bytes)
+  at-12 e = simp (kept.text_equals (λ f. omega arith), below e, is e) (var-end-is h store sound (more (omega arith) (omega arith)) (b ∷ w) kept.bytes)
 
   by_place : h.place < 13 → Done
   by_place =

@@ -37,7 +37,7 @@ pub record Sound (h : Head) (store : List ℕ) : Type 0 where
 -- what is kept of the word b ∷ w, where h says which word is due
 pub record Kept (h : Head) (b : ℕ) (w : List ℕ) (t : Text) (n : Number) (s : Scan) : Type 0 where
   pub bytes : Bytes (b ∷ w)
-  pub text-is : (h.place ≡ 8 → ⊥) → t ≡ text_of no_text (b ∷ w)
+  pub text_equals : (h.place ≡ 8 → ⊥) → t ≡ text_of no_text (b ∷ w)
   pub number_is : h.place ≡ 8 → n ≡ number_of no_number (b ∷ w)
-  pub name-is : h.place ≡ 10 → s ≡ scan_of (first_of_name b) w
-  pub range-is : h.place ≡ 11 → s ≡ scan_of (first_of_range b) w
+  pub name_is : h.place ≡ 10 → s ≡ scan_of (first_of_name b) w
+  pub range_is : h.place ≡ 11 → s ≡ scan_of (first_of_range b) w

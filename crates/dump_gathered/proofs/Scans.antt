@@ -272,11 +272,11 @@ record Agree (s : Scan) (r : Range) : Type 0 where
   counts : ℕ
   sought : Sought
   scan-is : s ≡ scan_for kind counts sought
-  range-is : r ≡ result sought
+  range_is : r ≡ result sought
 
 agree : (k c : ℕ) (z : Sought) (w : List ℕ) → Agree (scan_of (scan_for k c z) w) (whole k (eqb c 1) z w)
 unfolding scan_of later
-agree k c z [] = record { kind = k; counts = c; sought = z; scan-is = refl; range-is = rw (at-end z) (one-result z) }
+agree k c z [] = record { kind = k; counts = c; sought = z; scan-is = refl; range_is = rw (at-end z) (one-result z) }
 agree k c z (b ∷ w) = rw (scan_step k c z b, whole-step k (eqb c 1) z b w) (agree k (counts_after k b) (next (eqb c 1) z b) w)
 
 -- a range as a word of its own: nothing counts behind its first byte
@@ -330,7 +330,7 @@ kept-fits width l r = go (ltb l (2 ^ 64)) refl (ltb r (2 ^ 64)) refl
 module _ (s : Scan) (r : Range) (a : Agree s r) where
   ends : r.ends ≡ scan_ends s
   unfolding scan_ends
-  ends = rw (a.scan-is, a.range-is) (go a.sought)
+  ends = rw (a.scan-is, a.range_is) (go a.sought)
     where
       go : (z : Sought) → (result z).ends ≡ cond (eqb (phase_of z) 4) 1 (cond (eqb (phase_of z) 3) 2 0)
       go (nothing x y) = refl
@@ -344,7 +344,7 @@ module _ (s : Scan) (r : Range) (a : Agree s r) where
   -- there is one, with one end or with two
   by-ends : (P : Scan → Range → Type 0) → ltb 0 (scan_ends s) ≡ true
       → ((k c l : ℕ) → P (scan_for k c (sought_one_end l)) (result (sought_one_end l))) → ((k c l r : ℕ) → P (scan_for k c (sought_two_ends l r)) (result (sought_two_ends l r))) → P s r
-  by-ends P e f g = rw (a.scan-is, a.range-is) (go a.sought (rw (← ends, a.range-is) at e))
+  by-ends P e f g = rw (a.scan-is, a.range_is) (go a.sought (rw (← ends, a.range_is) at e))
     where
       go : (z : Sought) → given (result z) ≡ true → P (scan_for a.kind a.counts z) (result z)
       go (nothing x y) e = absurd (false≢true e)

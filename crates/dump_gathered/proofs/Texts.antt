@@ -112,21 +112,21 @@ module _ (q : List ℕ) (b : ℕ) where
 
 -- what is kept of a word p
 record Holds (t : Text) (p : List ℕ) : Type 0 where
-  length-is : t.length ≡ min 17 (length p)
+  length_is : t.length ≡ min 17 (length p)
   low-is : t.low ≡ code_of (take 8 p)
   high_is : t.high ≡ code_of (take 8 (drop 8 p))
 
 module _ (t : Text) (p : List ℕ) (b : ℕ) (bs : Bytes p) (byte : b < 256) (h : Holds t p) where
   holds-low : t.length < 8 → Holds (to_low t b) (p ++ (b ∷ []))
   holds-low k = record {
-    length-is = simp length-append (omega arith);
+    length_is = simp length-append (omega arith);
     low-is = rw h.low-is (grows p b t.length bs byte (omega arith) k);
     high_is = h.high_is ∙ rw (drop_of_length-le p {i = 8} (omega arith), drop_of_length-le (p ++ (b ∷ [])) {i = 8} (simp length-append (omega arith)));
   }
 
   holds-high : 8 ≤ t.length → t.length < 16 → Holds (to_high t b) (p ++ (b ∷ []))
   holds-high k l = record {
-    length-is = simp length-append (omega arith);
+    length_is = simp length-append (omega arith);
     low-is = h.low-is ∙ stays p b (omega arith);
     high_is =
         rw (h.high_is, drop-append-le 8 p (b ∷ []) (omega arith))
@@ -135,7 +135,7 @@ module _ (t : Text) (p : List ℕ) (b : ℕ) (bs : Bytes p) (byte : b < 256) (h 
 
   holds-none : 16 ≤ t.length → Holds (to_none t b) (p ++ (b ∷ []))
   holds-none k = record {
-    length-is = simp length-append (omega arith);
+    length_is = simp length-append (omega arith);
     low-is = h.low-is ∙ stays p b (omega arith);
     high_is = h.high_is ∙ rw (drop-append-le 8 p (b ∷ []) (omega arith)) (stays (drop 8 p) b (simp length-drop (omega arith)));
   }
@@ -151,7 +151,7 @@ holds_of t p (b ∷ w) g k h =
 
 holds : (w : List ℕ) → Bytes w → Holds (text_of no_text w) w
 unfolding code_of
-holds w h = holds_of no_text [] w tt h (record { length-is = refl; low-is = refl; high_is = refl })
+holds w h = holds_of no_text [] w tt h (record { length_is = refl; low-is = refl; high_is = refl })
 
 pub text-low : (w : List ℕ) → Bytes w → (text_of no_text w).low ≡ code_of (take 8 w)
 text-low w h = (holds w h).low-is

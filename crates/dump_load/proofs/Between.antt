@@ -49,8 +49,8 @@ pub record Declares (wires lent : List ℕ) (c : Core) (s : State) : Type 0 wher
   pub state-is : s ≡ state_of c.head c.store
   pub declaring : Declaring c.head c.store wires
   pub many : length c.digits ≡ 4096
-  pub frames-are : c.frames ≡ lent
-  pub no-identifier : c.wave.identifier ≡ 0
+  pub frames_are : c.frames ≡ lent
+  pub no_identifier : c.wave.identifier ≡ 0
   pub no_frames : c.wave.frames ≡ 0
 
 pub record Changes (wires lent : List ℕ) (c : Core) (s : State) : Type 0 where
@@ -68,9 +68,9 @@ pub record Dead (lent : List ℕ) (c : Core) (r : L.Reading) : Type 0 where
   pub low : 100 ≤ due c
   pub high : due c ≤ 116
   pub place_is : r.state.place ≡ due c
-  pub identifier-is : r.state.identifier ≡ c.wave.identifier
+  pub identifier_is : r.state.identifier ≡ c.wave.identifier
   pub framed : Framed c.wave.frames c.frames lent r.state.changed.frames
-  pub line-is : r.line ≡ c.shown
+  pub line_is : r.line ≡ c.shown
 
 pub data Between (wires lent : List ℕ) (c : Core) (r : L.Reading) : Type 0 where
   live : Live wires lent c r.state → Between wires lent c r
@@ -135,8 +135,8 @@ module _ (wires lent : List ℕ) (c : Core) (b : ℕ) (v : List ℕ) (bytes : By
                 state-is = says;
                 declaring = declaring-step h c.store wires kept.text kept.number kept.scan d.declaring;
                 many = digits-length h.place b v c.digits ∙ d.many;
-                frames-are = d.frames-are;
-                no-identifier = d.no-identifier;
+                frames_are = d.frames_are;
+                no_identifier = d.no_identifier;
                 no_frames = d.no_frames;
               }))
           go (inr l) =
@@ -147,9 +147,9 @@ module _ (wires lent : List ℕ) (c : Core) (b : ℕ) (v : List ℕ) (bytes : By
                 low = rw out l;
                 high = rw out top;
                 place_is = ap (λ (z : State). z.place) says ∙ sym out;
-                identifier-is = ap (λ (z : State). z.identifier) says ∙ sym d.no-identifier;
-                framed = rw (d.no_frames, d.frames-are, ap (λ (z : State). z.changed.frames) says) (framed-none lent);
-                line-is = refl;
+                identifier_is = ap (λ (z : State). z.identifier) says ∙ sym d.no_identifier;
+                framed = rw (d.no_frames, d.frames_are, ap (λ (z : State). z.changed.frames) says) (framed-none lent);
+                line_is = refl;
               })
 
     -- the last: the `$end` of `$enddefinitions`
@@ -160,12 +160,12 @@ module _ (wires lent : List ℕ) (c : Core) (b : ℕ) (v : List ℕ) (bytes : By
       abbrev last_core : ℕ → List ℕ → Core
       last_core place store = record { line = c.line; started = c.started; shown = c.line; head = D.at h place; wave = first_wave; store = store; digits = many; frames = c.frames }
 
-      text-is : kept.text ≡ t
-      text-is = ap (λ (w : Gathered). w.text) (word-other h.place b v (λ z. omega arith) (λ z. omega arith) (λ z. omega arith) (λ z. omega arith))
+      text_equals : kept.text ≡ t
+      text_equals = ap (λ (w : Gathered). w.text) (word-other h.place b v (λ z. omega arith) (λ z. omega arith) (λ z. omega arith) (λ z. omega arith))
 
       last-is : end_core c b v ≡ last_core (last_place h t c.store) (last_store h t c.store)
       unfolding end_core end_word end_last
-      last-is = rw (not-20, eq-eqb h.place 13 last, text-is)
+      last-is = rw (not-20, eq-eqb h.place 13 last, text_equals)
 
       due-is : (k : ℕ) → eqb h.place k ≡ eqb 13 k
       due-is k = ap (λ (m : ℕ). eqb m k) last
@@ -178,7 +178,7 @@ module _ (wires lent : List ℕ) (c : Core) (b : ℕ) (v : List ℕ) (bytes : By
       none : (place : ℕ) (store : List ℕ) → 100 ≤ place → place ≤ 116 → eqb place 20 ≡ false → Between wires lent (last_core place store) (record { state = goto (state_of h c.store) place; line = c.line })
       none place store l m e =
           let out : due (last_core place store) ≡ place = rw e in
-          dead (record { low = rw out l; high = rw out m; place_is = sym out; identifier-is = refl; framed = rw d.frames-are (framed-none lent); line-is = refl })
+          dead (record { low = rw out l; high = rw out m; place_is = sym out; identifier_is = refl; framed = rw d.frames_are (framed-none lent); line_is = refl })
 
       connected : good_table (declared_of h c.store) (pairs wires) ≡ true
           → Between wires lent (last_core 20 (connect_from c.store (bounded h.codes) 0 129)) (record { state = with_changed (state_of h c.store) 20 (none_changed (at_first (pairs wires))); line = c.line })
@@ -192,8 +192,8 @@ module _ (wires lent : List ℕ) (c : Core) (b : ℕ) (v : List ℕ) (bytes : By
             high = omega arith;
             few = codes-bounded h c.store d.declaring.sound;
             follows =
-                rw d.frames-are
-                (follows-first h.codes (connect_from c.store (bounded h.codes) 0 129) many lent (pairs wires) (state_of h c.store) 0 (record { long = z.long; declares = z.declares-them; connected = z.connected; narrow = z.narrow }) z.holds
+                rw d.frames_are
+                (follows-first h.codes (connect_from c.store (bounded h.codes) 0 129) many lent (pairs wires) (state_of h c.store) 0 (record { long = z.long; declares = z.declares_them; connected = z.connected; narrow = z.narrow }) z.holds
                 (digits-length h.place b v c.digits ∙ d.many));
           }))
 
@@ -248,7 +248,7 @@ module _ (wires lent : List ℕ) (c : Core) (b : ℕ) (v : List ℕ) (bytes : By
     at-stamp p e f = rw (e, word-stamp b v f) (refl, refl)
 
     at-vector : (p : ℕ) → p ≡ 20 → is_vector b ≡ true → ((word_of p b v).class ≡ 4) × Spelled v (word_of p b v).count (word_of p b v).wrong (digits_of p b v c.digits)
-    at-vector p e f = rw e (vector-class b v f, record { count-is = vector-count b v f; wrong-is = vector-wrong b v f; digits_are = vector-digits b v f c.digits d.follows.many })
+    at-vector p e f = rw e (vector-class b v f, record { count_is = vector-count b v f; wrong_is = vector-wrong b v f; digits_are = vector-digits b v f c.digits d.follows.many })
 
     at_other : (p : ℕ) → p ≡ 20 → (b ≡ 35 → ⊥) → is_vector b ≡ false → ((word_of p b v).class ≡ 1) × ((word_of p b v).text ≡ text_of no_text (b ∷ v))
     at_other p e f g = rw (e, word-change b v (ne_eqb b 35 f) g) (refl, refl)
@@ -256,13 +256,13 @@ module _ (wires lent : List ℕ) (c : Core) (b : ℕ) (v : List ℕ) (bytes : By
     whole : (p : ℕ) → 20 ≤ p → (p ≡ 20 → ⊥) → ((word_of p b v).class ≡ 1) × ((word_of p b v).text ≡ text_of no_text (b ∷ v))
     whole p l f = rw (word-other p b v f (λ z. omega arith) (λ z. omega arith) (λ z. omega arith)) (refl, refl)
 
-    kept-is : Kept w.place b v word.class word.text word.number word.count word.wrong spelled
-    kept-is = record {
+    kept_is : Kept w.place b v word.class word.text word.number word.count word.wrong spelled
+    kept_is = record {
       bytes = bytes;
-      stamp-is = at-stamp w.place;
-      vector-is = at-vector w.place;
-      other-is = at_other w.place;
-      text-is = λ f. (whole w.place d.low f).1;
+      stamp_is = at-stamp w.place;
+      vector_equals = at-vector w.place;
+      other_is = at_other w.place;
+      text_equals = λ f. (whole w.place d.low f).1;
     }
 
     -- only a vector changes the digits, and it is none where a vector's code is due
@@ -276,7 +276,7 @@ module _ (wires lent : List ℕ) (c : Core) (b : ℕ) (v : List ℕ) (bytes : By
             rw (digits_same w.place b v c.digits f) d.follows
 
     follows_next : Follows n changed.wave changed.store spelled changed.frames lent (pairs wires) (L.step (pairs wires) room s (b ∷ v))
-    follows_next = changed-step follows-spelled kept-is d.low d.high
+    follows_next = changed-step follows-spelled kept_is d.low d.high
 
     changed-between : Between wires lent changed (after s)
     changed-between = go (changed-stays w d.low d.high word.text word.number n c.store c.frames word.class word.count word.wrong)
@@ -285,7 +285,7 @@ module _ (wires lent : List ℕ) (c : Core) (b : ℕ) (v : List ℕ) (bytes : By
         go (near l m) = live (in-changes (record { head-is = d.head-is; low = l; high = m; few = d.few; follows = follows_next }))
         go (far l m) =
             let out : due changed ≡ changed.wave.place = rw (eq-eqb c.head.place 20 d.head-is) in
-            dead (record { low = rw out l; high = rw out m; place_is = follows_next.place_is ∙ sym out; identifier-is = follows_next.identifier-is; framed = follows_next.framed; line-is = refl })
+            dead (record { low = rw out l; high = rw out m; place_is = follows_next.place_is ∙ sym out; identifier_is = follows_next.identifier_is; framed = follows_next.framed; line_is = refl })
 
     changes-end : Between wires lent (end_core c b v) (after s)
     changes-end = rw changed-is changed-between

@@ -39,19 +39,19 @@ module _ (table : List Pair) (room : ℕ) where
 pub lined-live : (wires lent : List ℕ) (c : Core) (s : State) (b : ℕ) → Live wires lent c s → Live wires lent (lined_core c b) s
 unfolding lined_core
 lined-live wires lent c s b (in-declarations d) =
-    in-declarations (record { low = d.low; state-is = d.state-is; declaring = d.declaring; many = d.many; frames-are = d.frames-are; no-identifier = d.no-identifier; no_frames = d.no_frames })
+    in-declarations (record { low = d.low; state-is = d.state-is; declaring = d.declaring; many = d.many; frames_are = d.frames_are; no_identifier = d.no_identifier; no_frames = d.no_frames })
 lined-live wires lent c s b (in-changes d) = in-changes (record { head-is = d.head-is; low = d.low; high = d.high; few = d.few; follows = d.follows })
 
 pub lined-dead : (lent : List ℕ) (c : Core) (r : L.Reading) (b : ℕ) → Dead lent c r → Dead lent (lined_core c b) r
 unfolding lined_core
-lined-dead lent c r b d = record { low = d.low; high = d.high; place_is = d.place_is; identifier-is = d.identifier-is; framed = d.framed; line-is = d.line-is }
+lined-dead lent c r b d = record { low = d.low; high = d.high; place_is = d.place_is; identifier_is = d.identifier_is; framed = d.framed; line_is = d.line_is }
 
 -- BETWEEN TWO BYTES: s says what the last white space was
 pub record Alive (wires lent : List ℕ) (a : All) (m : M) (s : ℕ) : Type 0 where
   pub core : Core
   pub all-is : a ≡ all_of core m.text
   pub lives : Live wires lent core m.reading.state
-  pub line-is : core.line ≡ m.line
+  pub line_is : core.line ≡ m.line
   pub started-is : core.started ≡ s
   pub bytes : Bytes m.text
 
@@ -89,7 +89,7 @@ module _ (wires lent : List ℕ) where
 
     lined-alike : (c : Core) (r : L.Reading) → c.line ≡ l → Between wires lent c r → Behind c r
     unfolding lined_core
-    lined-alike c r e (live h) = alive (record { core = lined_core c b; all-is = refl; lives = lined-live wires lent c r.state b h; line-is = rw e (next-line l b least); started-is = refl; bytes = tt })
+    lined-alike c r e (live h) = alive (record { core = lined_core c b; all-is = refl; lives = lined-live wires lent c r.state b h; line_is = rw e (next-line l b least); started-is = refl; bytes = tt })
     lined-alike c r e (dead h) = gone (record { core = lined_core c b; all-is = refl; is-dead = lined-dead lent c r b h })
 
     abbrev Goes : L.Reading → List ℕ → Core → Type 0
@@ -107,7 +107,7 @@ module _ (wires lent : List ℕ) where
       → Alike wires lent (step (all_of c q) b) (word_byte table room (record { reading = r; text = q; line = l }) b) (started_by s b)
   unfolding word_byte started_by
   black-alike b black small r q l s c h e f g =
-      rw (black, step-more c (live-due wires lent c r.state h).0 q b black) (alive (record { core = c; all-is = refl; lives = h; line-is = e; started-is = f; bytes = bytes-snoc q b g small }))
+      rw (black, step-more c (live-due wires lent c r.state h).0 q b black) (alive (record { core = c; all-is = refl; lives = h; line_is = e; started-is = f; bytes = bytes-snoc q b g small }))
 
   gone-byte : (a : All) (m : M) (s b : ℕ) → Gone lent a m → Alike wires lent (step a b) (word_byte table room m b) (started_by s b)
   unfolding step refused place_of word_byte closed
@@ -122,8 +122,8 @@ module _ (wires lent : List ℕ) where
   one_byte a m s b small least (alive h) = rw h.all-is (go (blank b) refl)
     where
       go : (t : Bool) → blank b ≡ t → Alike wires lent (step (all_of h.core m.text) b) (word_byte table room m b) (started_by s b)
-      go true e = white-alike b e m.line least s m.reading m.text h.core h.lives h.line-is h.bytes
-      go false e = black-alike b e small m.reading m.text m.line s h.core h.lives h.line-is h.started-is h.bytes
+      go true e = white-alike b e m.line least s m.reading m.text h.core h.lives h.line_is h.bytes
+      go false e = black-alike b e small m.reading m.text m.line s h.core h.lives h.line_is h.started-is h.bytes
 
   -- ALL BYTES
   ended-most : (b : ℕ) → ended b ≤ 1

@@ -92,22 +92,22 @@ lined-is c b = go (eqb b 10) refl
 
 -- ONE BYTE where nothing is refused
 module _ (c : Core) (live : due c < 100) where
-  pub not-refused : (q : List ℕ) → refused (all_of c q).reader ≡ false
+  pub not_refused : (q : List ℕ) → refused (all_of c q).reader ≡ false
   unfolding refused place_of
-  not-refused q = lt-leb 100 (due c) live
+  not_refused q = lt-leb 100 (due c) live
 
   pub step-more : (q : List ℕ) (b : ℕ) → blank b ≡ false → step (all_of c q) b ≡ all_of c (q ++ (b ∷ []))
   unfolding step byte_step add_byte place_of
-  step-more [] b e = rw (not-refused [], e, word_first (due c) b, digits-first (due c) b c.digits)
-  step-more (x ∷ v) b e = rw (not-refused (x ∷ v), e, class-some (due c) x v, word-snoc (due c) x v b, digits-snoc (due c) x v b c.digits)
+  step-more [] b e = rw (not_refused [], e, word_first (due c) b, digits-first (due c) b c.digits)
+  step-more (x ∷ v) b e = rw (not_refused (x ∷ v), e, class-some (due c) x v, word-snoc (due c) x v b, digits-snoc (due c) x v b c.digits)
 
   pub step-none : (b : ℕ) → blank b ≡ true → step (all_of c []) b ≡ all_of (lined_core c b) []
   unfolding step byte_step
-  step-none b e = rw (not-refused [], e) (ap (λ (a : All). lined a b) (closed_none c) ∙ lined-is c b)
+  step-none b e = rw (not_refused [], e) (ap (λ (a : All). lined a b) (closed_none c) ∙ lined-is c b)
 
   pub step-some : (x : ℕ) (v : List ℕ) (b : ℕ) → blank b ≡ true → step (all_of c (x ∷ v)) b ≡ all_of (lined_core (end_core c x v) b) []
   unfolding step byte_step
-  step-some x v b e = rw (not-refused (x ∷ v), e) (ap (λ (a : All). lined a b) (closed_some c x v) ∙ lined-is (end_core c x v) b)
+  step-some x v b e = rw (not_refused (x ∷ v), e) (ap (λ (a : All). lined a b) (closed_some c x v) ∙ lined-is (end_core c x v) b)
 
 -- THE LINE COUNT
 pub count_none : (c : Core) → count_lines (all_of c []).reader ≡ cond (eqb c.started 0) (c.line - 1) c.line

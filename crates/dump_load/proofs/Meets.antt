@@ -26,10 +26,10 @@ use Rattle.dump_changed.proofs.Stamps.{closed-end}
 use Rattle.dump_reader.specs.Machine.{All, place_of, refused, feed, complete, unfinished, closing, finish_at, finish}
 use Rattle.dump_read.specs.Declaring.{Fresh}
 use Rattle.dump_read.proofs.Words.{M, m₀, closed, fed, fed-words}
-use Rattle.dump_read.proofs.Lines.{started_of, count_of, count-is}
+use Rattle.dump_read.proofs.Lines.{started_of, count_of, count_is}
 use Rattle.dump_read.proofs.Declaring.{declaring-start}
 use Rattle.dump_load.specs.Loading.{answered, first_reader, first_all, table_from, read_all}
-use Rattle.dump_load.proofs.Cores.{Core, due, all_of, end_core, not-refused, closed_none, closed_some, count_none, count-some}
+use Rattle.dump_load.proofs.Cores.{Core, due, all_of, end_core, not_refused, closed_none, closed_some, count_none, count-some}
 use Rattle.dump_load.proofs.Places.{Place, near, far, closed-stays}
 use Rattle.dump_load.proofs.Start.{fresh_start}
 use Rattle.dump_load.proofs.Between.{Declares, Changes, Live, in-declarations, in-changes, Dead, Between, live, dead, live-due, end_live}
@@ -37,8 +37,8 @@ use Rattle.dump_load.proofs.Bytes.{Alike, alive, gone, dead-closed, fed-alike}
 
 -- what the code answers and leaves, as the definition has it
 pub record Meets (lent : List ℕ) (z : All) (a : L.Answer) : Type 0 where
-  pub answer-is : answered z.reader ≡ record { refusal = a.refusal; frames = length a.frames; line = a.line; identifier = a.identifier }
-  pub frames-are : z.frames ≡ L.filled a.frames lent
+  pub answer_is : answered z.reader ≡ record { refusal = a.refusal; frames = length a.frames; line = a.line; identifier = a.identifier }
+  pub frames_are : z.frames ≡ L.filled a.frames lent
 
 -- REFUSED
 abbrev answer_to : L.Reading → L.Answer
@@ -50,8 +50,8 @@ dead-meets lent c r d =
     let small : due c - 100 < 2 ^ 32 = omega (arith, d.high) in
     let e : (due c - 100) % 2 ^ 32 ≡ r.state.place - 100 = mod-eq_of_lt small ∙ ap (λ (k : ℕ). k - 100) (sym d.place_is) in
     record {
-      answer-is = rw (le-leb 100 (due c) d.low, e, ← d.identifier-is, ← d.line-is, d.framed.count-is);
-      frames-are = d.framed.frames-are;
+      answer_is = rw (le-leb 100 (due c) d.low, e, ← d.identifier_is, ← d.line_is, d.framed.count_is);
+      frames_are = d.framed.frames_are;
     }
 
 module _ (wires lent : List ℕ) (count : ℕ) where
@@ -95,7 +95,7 @@ module _ (wires lent : List ℕ) (count : ℕ) where
     -- not refused
     whole : (z : State) (x : Core) → due x < 100 → z.place < 100 → Framed x.wave.frames x.frames lent z.changed.frames → Meets lent (all_of x []) (L.answer_of table room count r z)
     unfolding answered
-    whole z x l m f = rw (lt-leb 100 z.place m) (record { answer-is = rw (not-refused x l [], f.count-is); frames-are = f.frames-are })
+    whole z x l m f = rw (lt-leb 100 z.place m) (record { answer_is = rw (not_refused x l [], f.count_is); frames_are = f.frames_are })
 
     -- in the declarations
     declares-answer : Declares wires lent c s → Meets lent (finish_at (all_of c []) count) (answer_behind r)
@@ -106,11 +106,11 @@ module _ (wires lent : List ℕ) (count : ℕ) where
         let q : eqb c.head.place 20 ≡ false = ne_eqb c.head.place 20 (λ z. omega (arith, d.low)) in
         let e : eqb s.place 20 ≡ false = ne_eqb s.place 20 (λ z. omega (arith, d.low)) in
         let f : L.finish table room s ≡ refuse s 10 = finish-live s m ∙ rw e in
-        let i : s.identifier ≡ c.wave.identifier = ap (λ (z : State). z.identifier) d.state-is ∙ sym d.no-identifier in
+        let i : s.identifier ≡ c.wave.identifier = ap (λ (z : State). z.identifier) d.state-is ∙ sym d.no_identifier in
         let g : s.changed.frames ≡ [] = ap (λ (z : State). z.changed.frames) d.state-is in
-        rw (not-refused c l [], q, f)
+        rw (not_refused c l [], q, f)
         (shown (refuse s 10) (ended_at 110 c.wave c.frames) m
-        (record { low = omega arith; high = omega arith; place_is = refl; identifier-is = i; framed = rw (d.no_frames, d.frames-are, g) (framed-none lent); line-is = refl }))
+        (record { low = omega arith; high = omega arith; place_is = refl; identifier_is = i; framed = rw (d.no_frames, d.frames_are, g) (framed-none lent); line_is = refl }))
 
     -- in the changes: complete on both sides or on neither
     module _ (d : Changes wires lent c s) where
@@ -132,21 +132,21 @@ module _ (wires lent : List ℕ) (count : ℕ) where
               whole (S.closing table room s (λ z. z)) closes (rw out (omega arith)) (rw f.place_is (omega arith)) f.framed
           go k f (far l m) =
               let out : due closes ≡ (C.closed w c.store c.frames).place = rw (eq-eqb c.head.place 20 d.head-is) in
-              shown (S.closing table room s (λ z. z)) closes k (record { low = rw out l; high = rw out m; place_is = f.place_is ∙ sym out; identifier-is = f.identifier-is; framed = f.framed; line-is = refl })
+              shown (S.closing table room s (λ z. z)) closes k (record { low = rw out l; high = rw out m; place_is = f.place_is ∙ sym out; identifier_is = f.identifier_is; framed = f.framed; line_is = refl })
 
       broken-answer : Meets lent (all_of (ended_at 20 (C.at w 110) c.frames) []) (L.answer_of table room count r (refuse s 10))
       broken-answer =
           let (l, m) = live-due wires lent c s (in-changes d) in
-          shown (refuse s 10) (ended_at 20 (C.at w 110) c.frames) m (record { low = omega arith; high = omega arith; place_is = refl; identifier-is = d.follows.identifier-is; framed = d.follows.framed; line-is = refl })
+          shown (refuse s 10) (ended_at 20 (C.at w 110) c.frames) m (record { low = omega arith; high = omega arith; place_is = refl; identifier_is = d.follows.identifier_is; framed = d.follows.framed; line_is = refl })
 
       same : (eqb s.place 20 && not s.changed.dumping) ≡ (eqb w.place 20 && not (not (eqb w.dumping 0)))
-      same = ap₂ (λ (x y : Bool). x && not y) (ap (λ (k : ℕ). eqb k 20) d.follows.place_is) d.follows.dumping-is
+      same = ap₂ (λ (x y : Bool). x && not y) (ap (λ (k : ℕ). eqb k 20) d.follows.place_is) d.follows.dumping_is
 
       changes-answer : Meets lent (finish_at (all_of c []) count) (answer_behind r)
       unfolding finish_at closing complete unfinished
       changes-answer =
           let (l, m) = live-due wires lent c s (in-changes d) in
-          rw (not-refused c l [], eq-eqb c.head.place 20 d.head-is, finish-live s m ∙ ap (λ (t : Bool). cond t (S.closing table room s (λ z. z)) (refuse s 10)) same) (go (eqb w.place 20) refl (eqb w.dumping 0))
+          rw (not_refused c l [], eq-eqb c.head.place 20 d.head-is, finish-live s m ∙ ap (λ (t : Bool). cond t (S.closing table room s (λ z. z)) (refuse s 10)) same) (go (eqb w.place 20) refl (eqb w.dumping 0))
         where
           go : (x : Bool) → eqb w.place 20 ≡ x → (y : Bool) → Meets lent (cond (x && y) (all_of closes []) (all_of (ended_at 20 (C.at w 110) c.frames) [])) (L.answer_of table room count r (cond (x && not (not y)) (S.closing table room s (λ z. z)) (refuse s 10)))
           go true e true = closed-answer (eqb-true w.place 20 e)
@@ -171,9 +171,9 @@ module _ (wires lent : List ℕ) where
       → Meets lent (finish (all_of c q)) (answer_at (count_of (record { reading = r; text = q; line = l }) c.started) (reading_of (record { reading = r; text = q; line = l })))
   unfolding finish count_of closed
   alive-ends c r [] l h e g =
-      rw (not-refused c (live-due wires lent c r.state h).0 [], closed_none c, count_none c, ← e) (between-answer wires lent (cond (eqb c.started 0) (c.line - 1) c.line) c r (live h))
+      rw (not_refused c (live-due wires lent c r.state h).0 [], closed_none c, count_none c, ← e) (between-answer wires lent (cond (eqb c.started 0) (c.line - 1) c.line) c r (live h))
   alive-ends c r (b ∷ v) l h e g =
-      rw (not-refused c (live-due wires lent c r.state h).0 (b ∷ v), closed_some c b v, count-some c b v, ← e)
+      rw (not_refused c (live-due wires lent c r.state h).0 (b ∷ v), closed_some c b v, count-some c b v, ← e)
       (between-answer wires lent c.line (end_core c b v) (L.read_word (pairs wires) (length lent / 8) r (record { line = c.line; text = b ∷ v })) (end_live wires lent c b v g r h))
 
   gone-ends : (c : Core) (m : M) (count : ℕ) → Dead lent c m.reading → Meets lent (finish (all_of c [])) (answer_at count (reading_of m))
@@ -181,7 +181,7 @@ module _ (wires lent : List ℕ) where
   gone-ends c m count d = rw (le-leb 100 (due c) d.low) (dead-answer wires lent count c (reading_of m) (dead-closed (pairs wires) (length lent / 8) lent c m.reading m.line m.text d))
 
   ends : (a : All) (m : M) (s : ℕ) → Alike wires lent a m s → Meets lent (finish a) (answer_at (count_of m s) (reading_of m))
-  ends a m s (alive h) = rw (h.all-is, ← h.started-is) (alive-ends h.core m.reading m.text m.line h.lives h.line-is h.bytes)
+  ends a m s (alive h) = rw (h.all-is, ← h.started-is) (alive-ends h.core m.reading m.text m.line h.lives h.line_is h.bytes)
   ends a m s (gone h) = rw h.all-is (gone-ends h.core m (count_of m s) h.is-dead)
 
   -- THE START, with any store in which nothing is declared and any digits, so that none is computed
@@ -191,10 +191,10 @@ module _ (wires lent : List ℕ) where
 
     first-declares : Declares wires lent first m₀.reading.state
     unfolding part
-    first-declares = record { low = omega arith; state-is = refl; declaring = declaring-start store wires fresh; many = many; frames-are = refl; no-identifier = refl; no_frames = refl }
+    first-declares = record { low = omega arith; state-is = refl; declaring = declaring-start store wires fresh; many = many; frames_are = refl; no_identifier = refl; no_frames = refl }
 
     starts : Alike wires lent (record { reader = first_reader; store = store; digits = digits; frames = lent }) m₀ 0
-    starts = alive (record { core = first; all-is = refl; lives = in-declarations first-declares; line-is = refl; started-is = refl; bytes = tt })
+    starts = alive (record { core = first; all-is = refl; lives = in-declarations first-declares; line_is = refl; started-is = refl; bytes = tt })
 
   pub alike-first : length wires ≡ 258 → Alike wires lent (first_all wires lent) m₀ 0
   alike-first e = starts (table_from (replicate 8468 0) wires 0 258) (replicate 4096 0) (fresh_start wires e) (length-replicate {A = ℕ} 4096 0)
@@ -202,7 +202,7 @@ module _ (wires lent : List ℕ) where
   pub read_meets : (dump : List ℕ) → Bytes dump → length dump ≤ 2 ^ 64 - 2 → length wires ≡ 258 → Meets lent (read_all dump wires lent) (L.read (pairs wires) (length lent / 8) dump)
   unfolding read_all L.read
   read_meets dump g l e =
-      rw (← count-is (pairs wires) (length lent / 8) dump, ← fed-words (pairs wires) (length lent / 8) dump)
+      rw (← count_is (pairs wires) (length lent / 8) dump, ← fed-words (pairs wires) (length lent / 8) dump)
       (ends (feed (first_all wires lent) dump) (fed (pairs wires) (length lent / 8) m₀ dump) (started_of 0 dump) (fed-alike wires lent dump (first_all wires lent) m₀ 0 g (omega arith) (alike-first e)))
 
 -- THE THEOREM
@@ -210,4 +210,4 @@ pub meets : (dump wires lent : List ℕ) → Bytes dump → length dump ≤ 2 ^ 
     → let a = L.read (pairs wires) (length lent / 8) dump in
     (answered (read_all dump wires lent).reader ≡ record { refusal = a.refusal; frames = length a.frames; line = a.line; identifier = a.identifier })
     × ((read_all dump wires lent).frames ≡ L.filled a.frames lent)
-meets dump wires lent g l e f = let m : Meets lent (read_all dump wires lent) (L.read (pairs wires) (length lent / 8) dump) = read_meets wires lent dump g l e in (m.answer-is, m.frames-are)
+meets dump wires lent g l e f = let m : Meets lent (read_all dump wires lent) (L.read (pairs wires) (length lent / 8) dump) = read_meets wires lent dump g l e in (m.answer_is, m.frames_are)

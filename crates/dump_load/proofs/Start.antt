@@ -38,7 +38,7 @@ fresh zeros wires l z e = record {
   long = table-length 258 0 zeros wires ∙ l;
   size = e;
   below = λ k h. table-other 258 0 zeros wires k (λ j i f. omega arith) ∙ z k (omega arith);
-  wire-is = λ k h. let f : 0 + k ≡ k = omega arith in rw f at (table_at 258 0 zeros wires k h (omega arith));
+  wire_is = λ k h. let f : 0 + k ≡ k = omega arith in rw f at (table_at 258 0 zeros wires k h (omega arith));
   behind = λ k h. table-other 258 0 zeros wires (8450 + k) (λ j i f. omega arith) ∙ z (8450 + k) (omega arith);
 }
 

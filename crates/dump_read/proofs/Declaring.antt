@@ -272,9 +272,9 @@ module _ (h : Head) (store : List ℕ) (sound : Sound h store) (narrow : Narrow 
 pub declaring-step : (h : Head) (store wires : List ℕ) (t : Text) (n : Number) (s : Scan) → Declaring h store wires → Declaring (C.declaration_head h t n s store) (C.declaration_store h t s store) wires
 declaring-step h store wires t n s d = record {
   sound = sound-step h store t n s d.sound;
-  wired = record { size = d.wired.size; wire-is = λ k l. store_same h store (8192 + k) (omega arith) (λ j m z. omega arith) t s ∙ d.wired.wire-is k l };
-  no-spans = λ i l. store_same h store (5120 + i) (omega arith) (λ j m z. omega arith) t s ∙ d.no-spans i l;
-  no-values = λ k l. store_same h store (8450 + k) (omega arith) (λ j m z. omega arith) t s ∙ d.no-values k l;
+  wired = record { size = d.wired.size; wire_is = λ k l. store_same h store (8192 + k) (omega arith) (λ j m z. omega arith) t s ∙ d.wired.wire_is k l };
+  no_spans = λ i l. store_same h store (5120 + i) (omega arith) (λ j m z. omega arith) t s ∙ d.no_spans i l;
+  no_values = λ k l. store_same h store (8450 + k) (omega arith) (λ j m z. omega arith) t s ∙ d.no_values k l;
   narrow = step-narrow h store d.sound d.narrow t n s d.width;
   width = head-slim h store t n s d.width;
 }
@@ -283,9 +283,9 @@ declaring-step h store wires t n s d = record {
 pub declaring-start : (store wires : List ℕ) → Fresh store wires → Declaring (C.commanded 0 0 0 0) store wires
 declaring-start store wires f = record {
   sound = (sound-start store f.long).0;
-  wired = record { size = f.size; wire-is = f.wire-is };
-  no-spans = λ i l. f.below (5120 + i) (omega arith);
-  no-values = f.behind;
+  wired = record { size = f.size; wire_is = f.wire_is };
+  no_spans = λ i l. f.below (5120 + i) (omega arith);
+  no_values = f.behind;
   narrow = λ i l. absurd (omega arith);
   width = λ p q. absurd (omega arith);
 }
@@ -299,7 +299,7 @@ declares h store sound = record {
   finds = λ x. rw (codes-bounded h store sound) at (found x);
   code_is = λ i l. sym (getD-first 0 h.codes store i l);
   width_is = λ i l. sym (get_d_part 1024 h.codes store i l);
-  sort-is = λ i l. sym (get_d_part 2048 h.codes store i l);
+  sort_is = λ i l. sym (get_d_part 2048 h.codes store i l);
   left_is = λ i l. sym (get_d_part 3072 h.codes store i l);
   right_is = λ i l. sym (get_d_part 4096 h.codes store i l);
 }
@@ -319,10 +319,10 @@ pub last_end : (h : Head) (store wires : List ℕ) → Declaring h store wires �
 last_end h store wires d good =
     rw (codes-bounded h store d.sound)
     (record {
-      long = connect-long store n (declared_of h store) wires l said d.wired spans d.no-values good;
-      declares-them = after;
-      connected = connect-connected store n (declared_of h store) wires l said d.wired spans d.no-values good;
-      holds = connect-holds store n (declared_of h store) wires l said d.wired spans d.no-values good;
+      long = connect-long store n (declared_of h store) wires l said d.wired spans d.no_values good;
+      declares_them = after;
+      connected = connect-connected store n (declared_of h store) wires l said d.wired spans d.no_values good;
+      holds = connect-holds store n (declared_of h store) wires l said d.wired spans d.no_values good;
       narrow = λ i k. rw (after.width_is i k ∙ sym (said.width_is i k)) (d.narrow i k);
     })
   where
@@ -336,7 +336,7 @@ last_end h store wires d good =
     said = declares h store d.sound
 
     spans : (i : ℕ) → i < h.codes → get_or store (5120 + i) 0 ≡ 0
-    spans i k = d.no-spans i (omega (arith, said.few))
+    spans i k = d.no_spans i (omega (arith, said.few))
 
     after : Declares (connect_from store h.codes 0 129) h.codes (declared_of h store)
-    after = connect-declares store h.codes (declared_of h store) wires l said d.wired spans d.no-values good
+    after = connect-declares store h.codes (declared_of h store) wires l said d.wired spans d.no_values good

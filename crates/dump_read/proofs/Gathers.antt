@@ -222,9 +222,9 @@ count_by (b ∷ v) c z h = go (λ x y k. count_by v x y k) (ltb c 4096) refl
         rw (e, le-ltb (c + suc (length v)) 4097 (omega arith)) (ih 4097 (cond (eqb (value_of b) 3) 1 z) (omega arith) ∙ rw (le-ltb (4097 + length v) 4097 (omega arith)))
 
 -- a value is at most 3, and 3 is wrong
-value-is : (b : ℕ) → eqb (value_of b) 3 ≡ not (ltb (value_of b) 3)
+value_is : (b : ℕ) → eqb (value_of b) 3 ≡ not (ltb (value_of b) 3)
 unfolding value_of
-value-is b = go (eqb b 48) (eqb b 49) (eqb b 120 || eqb b 88 || eqb b 122 || eqb b 90)
+value_is b = go (eqb b 48) (eqb b 49) (eqb b 120 || eqb b 88 || eqb b 122 || eqb b 90)
   where
     go : (x y z : Bool) → eqb (cond x 0 (cond y 1 (cond z 2 3))) 3 ≡ not (ltb (cond x 0 (cond y 1 (cond z 2 3))) 3)
     go true y z = refl
@@ -239,7 +239,7 @@ wrong-by [] c z = go (eqb z 0)
     go : (t : Bool) → t ≡ (t && true)
     go true = refl
     go false = refl
-wrong-by (b ∷ v) c z = wrong-by v (more c) (cond (eqb (value_of b) 3) 1 z) ∙ rw (value-is b) (go (ltb (value_of b) 3) (eqb z 0) refl)
+wrong-by (b ∷ v) c z = wrong-by v (more c) (cond (eqb (value_of b) 3) 1 z) ∙ rw (value_is b) (go (ltb (value_of b) 3) (eqb z 0) refl)
   where
     go : (t u : Bool) → eqb z 0 ≡ u → (eqb (cond (not t) 1 z) 0 && all_values v) ≡ (u && (t && all_values v))
     go true u e = rw e
@@ -277,10 +277,10 @@ module _ (b : ℕ) (v : List ℕ) (vector : is_vector b ≡ true) where
 pub word_kept : (h : Head) (b : ℕ) (v : List ℕ) → Bytes (b ∷ v) → h.place < 20 → Kept h b v (word_of h.place b v).text (word_of h.place b v).number (word_of h.place b v).scan
 word_kept h b v bytes k = record {
   bytes = bytes;
-  text-is = texts h.place k;
+  text_equals = texts h.place k;
   number_is = λ e. at_8 h.place e;
-  name-is = λ e. at-10 h.place e;
-  range-is = λ e. at-11 h.place e;
+  name_is = λ e. at-10 h.place e;
+  range_is = λ e. at-11 h.place e;
 }
   where
     at_8 : (p : ℕ) → p ≡ 8 → (word_of p b v).number ≡ number_of no_number (b ∷ v)

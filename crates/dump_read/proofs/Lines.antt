@@ -1,4 +1,4 @@
--- The line that a machine over bytes is in, and the line count of the text: `fed-line`, `count-snoc` and `count-is`. Assumes nothing.
+-- The line that a machine over bytes is in, and the line count of the text: `fed-line`, `count-snoc` and `count_is`. Assumes nothing.
 use mathlib.Core.Path.{◌≡◌, refl, ◌∙◌, sym}
 use mathlib.Core.Bool.{Bool, true, false, cond}
 use mathlib.Core.List.{List, [], ◌∷◌, ◌++◌, append-nil}
@@ -94,8 +94,8 @@ none_is : (table : List Pair) (room : ℕ) → count_of (fed table room m₀ [])
 unfolding count_of fed started_of line_count
 none_is table room = refl
 
-pub count-is : (table : List Pair) (room : ℕ) (dump : List ℕ) → count_of (fed table room m₀ dump) (started_of 0 dump) ≡ line_count dump
-count-is table room dump = from dump [] (none_is table room)
+pub count_is : (table : List Pair) (room : ℕ) (dump : List ℕ) → count_of (fed table room m₀ dump) (started_of 0 dump) ≡ line_count dump
+count_is table room dump = from dump [] (none_is table room)
   where
     from : (bs x : List ℕ) → count_of (fed table room m₀ x) (started_of 0 x) ≡ line_count x → count_of (fed table room m₀ (x ++ bs)) (started_of 0 (x ++ bs)) ≡ line_count (x ++ bs)
     from [] x h = rw (append-nil x) h

@@ -55,12 +55,12 @@ Answers g s r before after = (r ≡ g.read) × (after ≡ g.frames) × Repeated 
 module _ (s : State) (frames : List ℕ) (reads : Given) (r : Read) where
   pub answers-again : (s.refusal ≡ 0 → ⊥) → r ≡ again s → Answers (tested s frames reads) s r frames frames
   unfolding tested
-  answers-again h e = rw (ne_eqb s.refusal 0 h) (e, refl, record { same_read = λ z. e; same-frames = λ z. refl })
+  answers-again h e = rw (ne_eqb s.refusal 0 h) (e, refl, record { same_read = λ z. e; same_frames = λ z. refl })
 
   pub answers-refused : s.refusal ≡ 0 → (d : ℕ) → d ≡ length_refusal s.table (length frames) → (d ≡ 0 → ⊥) → r ≡ refusing s d → Answers (tested s frames reads) s r frames frames
   answers-refused free d e h f =
-      rw (tested-refuses s frames free reads (λ z. h (e ∙ z)), ← e) (f, refl, record { same_read = λ z. absurd (z free); same-frames = λ z. refl })
+      rw (tested-refuses s frames free reads (λ z. h (e ∙ z)), ← e) (f, refl, record { same_read = λ z. absurd (z free); same_frames = λ z. refl })
 
   pub answers-read : s.refusal ≡ 0 → (d : ℕ) → d ≡ length_refusal s.table (length frames) → d ≡ 0 → (after : List ℕ) → r ≡ reads.read → after ≡ reads.frames → Answers (tested s frames reads) s r frames after
   answers-read free d e z after f g =
-      rw (tested_reads s frames free reads (sym e ∙ z)) (f, g, record { same_read = λ y. absurd (y free); same-frames = λ y. absurd (y free) })
+      rw (tested_reads s frames free reads (sym e ∙ z)) (f, g, record { same_read = λ y. absurd (y free); same_frames = λ y. absurd (y free) })

@@ -69,4 +69,4 @@ end_of s frames = tested s frames (record { read = ended_state s (finish (held s
 -- "both alter neither state nor frames": of any call, where an answer stands
 pub record Repeated (s : State) (r : Read) (before after : List ℕ) : Type 0 where
   pub same_read : (s.refusal ≡ 0 → ⊥) → r ≡ record { state = s; answer = standing s }
-  pub same-frames : (s.refusal ≡ 0 → ⊥) → after ≡ before
+  pub same_frames : (s.refusal ≡ 0 → ⊥) → after ≡ before

@@ -141,9 +141,9 @@ module _ (n : ℕ) (d : Declared) (table : List Pair) where
     holds-set vs v = record {
       size = v.size;
       each = v.each;
-      clock-is = aside 8466 (λ z. omega arith) (λ z. omega (arith, few)) ∙ v.clock-is;
-      values-are = λ w m. aside (8450 + w) (λ z. omega arith) (λ z. omega (arith, few)) ∙ v.values-are w m;
-      unknown-are = λ w m. aside (8454 + w) (λ z. omega arith) (λ z. omega (arith, few)) ∙ v.unknown-are w m;
+      clock_is = aside 8466 (λ z. omega arith) (λ z. omega (arith, few)) ∙ v.clock_is;
+      values_are = λ w m. aside (8450 + w) (λ z. omega arith) (λ z. omega (arith, few)) ∙ v.values_are w m;
+      unknown_are = λ w m. aside (8454 + w) (λ z. omega arith) (λ z. omega (arith, few)) ∙ v.unknown_are w m;
     }
 
     linked-entry : (vs : List ℕ) → Holds 8450 8466 s vs → Linked (suc e) (connected_entry s e i) × Holds 8450 8466 (connected_entry s e i) (set vs e 2)
@@ -186,7 +186,7 @@ module _ (n : ℕ) (d : Declared) (table : List Pair) where
 
 -- THE WHOLE TABLE
 module _ (store : List ℕ) (n : ℕ) (d : Declared) (wires : List ℕ) (long : length store ≡ 8468) (declares : Declares store n d) (wired : Wired store wires)
-    (no-spans : (i : ℕ) → i < n → get_or store (5120 + i) 0 ≡ 0) (no-values : (k : ℕ) → k < 18 → get_or store (8450 + k) 0 ≡ 0) (good : good_table d (pairs wires) ≡ true) where
+    (no_spans : (i : ℕ) → i < n → get_or store (5120 + i) 0 ≡ 0) (no_values : (k : ℕ) → k < 18 → get_or store (8450 + k) 0 ≡ 0) (good : good_table d (pairs wires) ≡ true) where
   at-start : Linked n d (pairs wires) 0 store
   at-start = record {
     long = long;
@@ -194,14 +194,14 @@ module _ (store : List ℕ) (n : ℕ) (d : Declared) (wires : List ℕ) (long : 
     code_is = code-word store n d wires declares wired;
     place_is = λ j m l c. absurd (omega arith);
     index_is = λ j m l. index_word store n d wires declares wired j l;
-    starts = λ i l. rw (no-spans i l) (omega arith);
+    starts = λ i l. rw (no_spans i l) (omega arith);
     spans = λ j i m l c f k. absurd (omega arith);
   }
 
   at-end : Linked n d (pairs wires) 129 (connect_from store n 0 129) × Holds 8450 8466 (connect_from store n 0 129) (puts_from (λ e. connected (entry_at (pairs wires) e)) (λ _. 2) (replicate 129 0) 0 129)
   at-end =
       let size : length (pairs wires) ≡ 129 = table-length store n d wires declares wired in
-      linked-all n d (pairs wires) (λ j l c. rw declares.count at (table-declared d (pairs wires) good j (omega arith) c)) 129 0 store (replicate 129 0) refl (at-start, first_holds store no-values)
+      linked-all n d (pairs wires) (λ j l c. rw declares.count at (table-declared d (pairs wires) good j (omega arith) c)) 129 0 store (replicate 129 0) refl (at-start, first_holds store no_values)
 
   pub connect-long : length (connect_from store n 0 129) ≡ 8468
   connect-long = at-end.0.long

@@ -21,9 +21,9 @@ unfolding packed
 first_holds s z = record {
   size = refl;
   each = λ e. omega (arith, zeros-at 129 e);
-  clock-is = z 16 (omega arith);
-  values-are = λ w l. z w (omega arith) ∙ values w l;
-  unknown-are = λ w l. let e : 8454 + w ≡ 8450 + (4 + w) = omega arith in rw e (z (4 + w) (omega arith)) ∙ unknown w l;
+  clock_is = z 16 (omega arith);
+  values_are = λ w l. z w (omega arith) ∙ values w l;
+  unknown_are = λ w l. let e : 8454 + w ≡ 8450 + (4 + w) = omega arith in rw e (z (4 + w) (omega arith)) ∙ unknown w l;
 }
   where
     values : (w : ℕ) → w < 4 → 0 ≡ word_of (λ v. v % 2) (replicate 129 0) w

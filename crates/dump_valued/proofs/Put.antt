@@ -40,43 +40,43 @@ module _ (store vs : List ℕ) (long : length store ≡ 8468) (h : Holds 8450 84
     values : (w : ℕ) → w < 4 → (t : Bool) → eqb w u ≡ t → get_or (put_wire store u i v) (8450 + w) 0 ≡ word_of (λ v. v % 2) (set vs at v) w
     unfolding put_wire
     values w l true e =
-        rw (eqb-true w u e, get_or-set_other (set store (8450 + u) first) (8454 + u) (8450 + u) second 0 (λ z. omega arith), get_or-set_same store (8450 + u) first 0 (omega arith), h.values-are u few)
+        rw (eqb-true w u e, get_or-set_other (set store (8450 + u) first) (8454 + u) (8450 + u) second 0 (λ z. omega arith), get_or-set_same store (8450 + u) first 0 (omega arith), h.values_are u few)
         (word-put (λ v. v % 2) value-bit vs h.each u i v h.size few low small)
     values w l false e =
         let n : (w ≡ u → ⊥) = eqb-false w u e in
         aside store (8450 + u) (8454 + u) first second (8450 + w) (λ z. n (omega arith)) (λ z. omega arith)
-        ∙ h.values-are w l ∙ sym (word-other (λ v. v % 2) value-bit vs w u i v n low)
+        ∙ h.values_are w l ∙ sym (word-other (λ v. v % 2) value-bit vs w u i v n low)
 
     unknown : (w : ℕ) → w < 4 → (t : Bool) → eqb w u ≡ t → get_or (put_wire store u i v) (8454 + w) 0 ≡ word_of (λ v. v / 2) (set vs at v) w
     unfolding put_wire
     unknown w l true e =
         let b : v / 2 % 2 ≡ v / 2 = omega arith in
-        rw (eqb-true w u e, get_or-set_same (set store (8450 + u) first) (8454 + u) second 0 (simp length-set (omega arith)), h.unknown-are u few, b)
+        rw (eqb-true w u e, get_or-set_same (set store (8450 + u) first) (8454 + u) second 0 (simp length-set (omega arith)), h.unknown_are u few, b)
         (word-put (λ v. v / 2) unknown-bit vs h.each u i v h.size few low small)
     unknown w l false e =
         let n : (w ≡ u → ⊥) = eqb-false w u e in
         aside store (8450 + u) (8454 + u) first second (8454 + w) (λ z. omega arith) (λ z. n (omega arith))
-        ∙ h.unknown-are w l ∙ sym (word-other (λ v. v / 2) unknown-bit vs w u i v n low)
+        ∙ h.unknown_are w l ∙ sym (word-other (λ v. v / 2) unknown-bit vs w u i v n low)
 
     wire-holds : Holds 8450 8466 (put_wire store u i v) (set vs at v)
     unfolding put_wire
     wire-holds = record {
       size = simp length-set h.size;
       each = set-each 3 vs at v h.each small;
-      clock-is =
+      clock_is =
           aside store (8450 + u) (8454 + u) first second 8466 (λ z. omega arith) (λ z. omega arith)
-          ∙ h.clock-is ∙ sym (get_or-set_other vs at 0 v 2 (λ z. omega arith));
-      values-are = λ w l. values w l (eqb w u) refl;
-      unknown-are = λ w l. unknown w l (eqb w u) refl;
+          ∙ h.clock_is ∙ sym (get_or-set_other vs at 0 v 2 (λ z. omega arith));
+      values_are = λ w l. values w l (eqb w u) refl;
+      unknown_are = λ w l. unknown w l (eqb w u) refl;
     }
 
   clock-holds : Holds 8450 8466 (set store 8466 v) (set vs 0 v)
   clock-holds = record {
     size = simp length-set h.size;
     each = set-each 3 vs 0 v h.each small;
-    clock-is = get_or-set_same store 8466 v 0 (omega arith) ∙ sym (get_or-set_same vs 0 v 2 (omega (arith, h.size)));
-    values-are = λ w l. get_or-set_other store 8466 (8450 + w) v 0 (λ z. omega arith) ∙ h.values-are w l ∙ sym (word_below (λ v. v % 2) value-bit vs w 0 v (omega arith));
-    unknown-are = λ w l. get_or-set_other store 8466 (8454 + w) v 0 (λ z. omega arith) ∙ h.unknown-are w l ∙ sym (word_below (λ v. v / 2) unknown-bit vs w 0 v (omega arith));
+    clock_is = get_or-set_same store 8466 v 0 (omega arith) ∙ sym (get_or-set_same vs 0 v 2 (omega (arith, h.size)));
+    values_are = λ w l. get_or-set_other store 8466 (8450 + w) v 0 (λ z. omega arith) ∙ h.values_are w l ∙ sym (word_below (λ v. v % 2) value-bit vs w 0 v (omega arith));
+    unknown_are = λ w l. get_or-set_other store 8466 (8454 + w) v 0 (λ z. omega arith) ∙ h.unknown_are w l ∙ sym (word_below (λ v. v / 2) unknown-bit vs w 0 v (omega arith));
   }
 
   pub put_holds : (e : ℕ) → e < 129 → Holds 8450 8466 (put_at store e v) (set vs e v)

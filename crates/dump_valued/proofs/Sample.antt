@@ -12,14 +12,14 @@ use Rattle.dump_valued.proofs.Words.{word_lt}
 module _ (store vs : List ℕ) (h : Holds 8458 8467 store vs) where
   pub sample-is : (j : ℕ) → j < 8 → get_or store (8458 + j) 0 ≡ get_or (frame_of vs) j 0
   unfolding frame_of
-  sample-is zero l = h.values-are 0 (omega arith)
-  sample-is (suc zero) l = h.values-are 1 (omega arith)
-  sample-is (suc (suc zero)) l = h.values-are 2 (omega arith)
-  sample-is (suc (suc (suc zero))) l = h.values-are 3 (omega arith)
-  sample-is (suc (suc (suc (suc zero)))) l = h.unknown-are 0 (omega arith)
-  sample-is (suc (suc (suc (suc (suc zero))))) l = h.unknown-are 1 (omega arith)
-  sample-is (suc (suc (suc (suc (suc (suc zero)))))) l = h.unknown-are 2 (omega arith)
-  sample-is (suc (suc (suc (suc (suc (suc (suc zero))))))) l = h.unknown-are 3 (omega arith)
+  sample-is zero l = h.values_are 0 (omega arith)
+  sample-is (suc zero) l = h.values_are 1 (omega arith)
+  sample-is (suc (suc zero)) l = h.values_are 2 (omega arith)
+  sample-is (suc (suc (suc zero))) l = h.values_are 3 (omega arith)
+  sample-is (suc (suc (suc (suc zero)))) l = h.unknown_are 0 (omega arith)
+  sample-is (suc (suc (suc (suc (suc zero))))) l = h.unknown_are 1 (omega arith)
+  sample-is (suc (suc (suc (suc (suc (suc zero)))))) l = h.unknown_are 2 (omega arith)
+  sample-is (suc (suc (suc (suc (suc (suc (suc zero))))))) l = h.unknown_are 3 (omega arith)
   sample-is (suc (suc (suc (suc (suc (suc (suc (suc j)))))))) l = absurd (omega arith)
 
   values-lt : (w : ℕ) → word_of (λ v. v % 2) vs w < 2 ^ 32

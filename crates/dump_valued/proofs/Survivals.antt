@@ -44,7 +44,7 @@ declares-same s t n d as_long low hints h =
       finds = λ x. lookup-same s t as_long n few (λ k l. low k (omega arith)) hints x ∙ h.finds x;
       code_is = λ i l. low i (omega arith) ∙ h.code_is i l;
       width_is = λ i l. low (1024 + i) (omega arith) ∙ h.width_is i l;
-      sort-is = λ i l. low (2048 + i) (omega arith) ∙ h.sort-is i l;
+      sort_is = λ i l. low (2048 + i) (omega arith) ∙ h.sort_is i l;
       left_is = λ i l. low (3072 + i) (omega arith) ∙ h.left_is i l;
       right_is = λ i l. low (4096 + i) (omega arith) ∙ h.right_is i l;
     }
@@ -55,7 +55,7 @@ module _ (s t : List ℕ) (low : (k : ℕ) → k < 8450 → get_or t k 0 ≡ get
   declares-below n d as_long = declares-same s t n d as_long (λ k l. low k (omega arith)) (λ k l. low (6144 + k) (omega arith))
 
   pub wired-below : (wires : List ℕ) → Wired s wires → Wired t wires
-  wired-below wires h = record { size = h.size; wire-is = λ k l. low (8192 + k) (omega arith) ∙ h.wire-is k l }
+  wired-below wires h = record { size = h.size; wire_is = λ k l. low (8192 + k) (omega arith) ∙ h.wire_is k l }
 
   pub connected-below : (n : ℕ) (d : Declared) (table : List Pair) → n ≤ 1024 → Connected s n d table → Connected t n d table
   connected-below n d table few h = record {
@@ -71,13 +71,13 @@ pub holds_same : (frame clock frame' clock' : ℕ) (s t vs : List ℕ) → ((k :
 holds_same frame clock frame' clock' s t vs words one h = record {
   size = h.size;
   each = h.each;
-  clock-is = one ∙ h.clock-is;
-  values-are = λ w l. words w (omega arith) ∙ h.values-are w l;
-  unknown-are =
+  clock_is = one ∙ h.clock_is;
+  values_are = λ w l. words w (omega arith) ∙ h.values_are w l;
+  unknown_are =
       λ w l.
       let a : frame + 4 + w ≡ frame + (4 + w) = omega arith in
       let b : frame' + 4 + w ≡ frame' + (4 + w) = omega arith in
-      rw b (words (4 + w) (omega arith)) ∙ rw a at (h.unknown-are w l);
+      rw b (words (4 + w) (omega arith)) ∙ rw a at (h.unknown_are w l);
 }
 
 -- WHERE ONLY THE VALUES NOW CHANGE

@@ -71,12 +71,12 @@ between_ends k l r = go (ltb l r) refl (ltb k l) refl (ltb k r) refl
 
 module _ (store : List ℕ) (n : ℕ) (d : Declared) (wires : List ℕ) (declares : Declares store n d) (wired : Wired store wires) where
   pub code-word : (e : ℕ) → e < 129 → get_or store (8192 + 2 * e) 0 ≡ (entry_at (pairs wires) e).code
-  code-word e l = wired.wire-is (2 * e) (omega arith) ∙ sym (ap (λ (p : Pair). p.code) (pairs-at wires e (omega (arith, wired.size))))
+  code-word e l = wired.wire_is (2 * e) (omega arith) ∙ sym (ap (λ (p : Pair). p.code) (pairs-at wires e (omega (arith, wired.size))))
 
   pub index_word : (e : ℕ) → e < 129 → get_or store (8193 + 2 * e) 0 ≡ (entry_at (pairs wires) e).index
   index_word e l =
       let f : 8193 + 2 * e ≡ 8192 + suc (2 * e) = omega arith in
-      rw f (wired.wire-is (suc (2 * e)) (omega arith)) ∙ sym (ap (λ (p : Pair). p.index) (pairs-at wires e (omega (arith, wired.size))))
+      rw f (wired.wire_is (suc (2 * e)) (omega arith)) ∙ sym (ap (λ (p : Pair). p.index) (pairs-at wires e (omega (arith, wired.size))))
 
   pub table-length : length (pairs wires) ≡ 129
   table-length = pairs-length 129 wires wired.size
@@ -102,7 +102,7 @@ module _ (store : List ℕ) (n : ℕ) (d : Declared) (wires : List ℕ) (declare
             ≡ (ltb place n && not (real_at d place) && between pair.index (get_or d.lefts place 0) (get_or d.rights place 0))
         go true q =
             let m : place < n = ltb-true place n q in
-            rw (q, declares.sort-is place m, declares.left_is place m, declares.right_is place m)
+            rw (q, declares.sort_is place m, declares.left_is place m, declares.right_is place m)
             (bits (real_at d place) _ _ (between_ends pair.index (get_or d.lefts place 0) (get_or d.rights place 0)))
         go false q = rw q
 

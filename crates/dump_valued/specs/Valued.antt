@@ -11,9 +11,9 @@ use Rattle.dump_values.specs.Values.{span_end}
 pub record Holds (frame clock : ℕ) (store vs : List ℕ) : Type 0 where
   pub size : length vs ≡ 129
   pub each : (e : ℕ) → get_or vs e 0 < 3
-  pub clock-is : get_or store clock 0 ≡ get_or vs 0 2
-  pub values-are : (w : ℕ) → w < 4 → get_or store (frame + w) 0 ≡ word_of (λ v. v % 2) vs w
-  pub unknown-are : (w : ℕ) → w < 4 → get_or store (frame + 4 + w) 0 ≡ word_of (λ v. v / 2) vs w
+  pub clock_is : get_or store clock 0 ≡ get_or vs 0 2
+  pub values_are : (w : ℕ) → w < 4 → get_or store (frame + w) 0 ≡ word_of (λ v. v % 2) vs w
+  pub unknown_are : (w : ℕ) → w < 4 → get_or store (frame + 4 + w) 0 ≡ word_of (λ v. v / 2) vs w
 
 -- the n declarations
 pub record Declares (store : List ℕ) (n : ℕ) (d : Declared) : Type 0 where
@@ -22,14 +22,14 @@ pub record Declares (store : List ℕ) (n : ℕ) (d : Declared) : Type 0 where
   pub finds : (x : ℕ) → lookup store n x ≡ index_of d.codes x
   pub code_is : (i : ℕ) → i < n → get_or store i 0 ≡ get_or d.codes i 0
   pub width_is : (i : ℕ) → i < n → get_or store (1024 + i) 0 ≡ get_or d.widths i 0
-  pub sort-is : (i : ℕ) → i < n → get_or store (2048 + i) 0 ≡ get_or d.sorts i 0
+  pub sort_is : (i : ℕ) → i < n → get_or store (2048 + i) 0 ≡ get_or d.sorts i 0
   pub left_is : (i : ℕ) → i < n → get_or store (3072 + i) 0 ≡ get_or d.lefts i 0
   pub right_is : (i : ℕ) → i < n → get_or store (4096 + i) 0 ≡ get_or d.rights i 0
 
 -- the table as it is given
 pub record Wired (store wires : List ℕ) : Type 0 where
   pub size : length wires ≡ 258
-  pub wire-is : (k : ℕ) → k < 258 → get_or store (8192 + k) 0 ≡ get_or wires k 0
+  pub wire_is : (k : ℕ) → k < 258 → get_or store (8192 + k) 0 ≡ get_or wires k 0
 
 abbrev pub entry_at : List Pair → ℕ → Pair
 entry_at table e = get_or table e (record { code = 0; index = 0 })

@@ -48,7 +48,7 @@ module _ (c : Config) (trace rows words : List ℕ) (a b : ℕ) (samples : List 
         → edit_refusal c trace rows words a b samples ≡ cond u (cond v 0 6) 5
     unfolding edit_refusal
     rest-decides u v p q =
-        let rows_are = (check-accepted c trace rows words z).rows-length in
+        let rows_are = (check-accepted c trace rows words z).rows_length in
         rw (eq-eqb check 0 z, p, ap (λ (n : ℕ). leb a b && leb b n) (sym rows_are) ∙ q)
 
   -- the tests behind a refusal number of 0
@@ -68,7 +68,7 @@ module _ (c : Config) (trace rows words : List ℕ) (a b : ℕ) (samples : List 
             lengths = ok;
             samples-length = eqb-true (length samples) (frame_words * (b - a)) p;
             low = leb→le a b (and_left (leb a b) (leb b (length rows)) (of-true q));
-            high = omega (arith, leb→le b (length rows) (and_right (leb a b) (leb b (length rows)) (of-true q)), ok.rows-length);
+            high = omega (arith, leb→le b (length rows) (and_right (leb a b) (leb b (length rows)) (of-true q)), ok.rows_length);
           }
           by true false p q n e h = absurd (omega arith)
           by false v p q n e h = absurd (omega arith)

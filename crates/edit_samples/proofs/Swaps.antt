@@ -30,15 +30,15 @@ module _
     {l s l' s' l'' s'' : List ℕ} {first : ℕ} (there : Swapped l s first l' s') (back : Swapped l' s' first l'' s'')
   where
     same : length s' ≡ length s
-    same = there.samples-are.same_length
+    same = there.samples_are.same_length
 
     pub trace-back : l'' ≡ l
     trace-back =
-        restored _ _ first (first + length s) l l' l'' there.trace-is (rw same at back.trace-is)
+        restored _ _ first (first + length s) l l' l'' there.trace_is (rw same at back.trace_is)
         (λ t h k.
-        let e : first + (t - first) ≡ t = omega arith in there.samples-are.within (t - first) zero-le (omega arith) ∙ ap (λ (j : ℕ). get_or l j 0) e)
+        let e : first + (t - first) ≡ t = omega arith in there.samples_are.within (t - first) zero-le (omega arith) ∙ ap (λ (j : ℕ). get_or l j 0) e)
 
     pub samples-back : s'' ≡ s
     samples-back =
-        restored _ _ 0 (length s) s s' s'' there.samples-are (rw same at back.samples-are)
-        (λ t h k. let e : first + t - first ≡ t = omega arith in there.trace-is.within (first + t) (omega arith) (omega arith) ∙ ap (λ (j : ℕ). get_or s j 0) e)
+        restored _ _ 0 (length s) s s' s'' there.samples_are (rw same at back.samples_are)
+        (λ t h k. let e : first + t - first ≡ t = omega arith in there.trace_is.within (first + t) (omega arith) (omega arith) ∙ ap (λ (j : ℕ). get_or s j 0) e)

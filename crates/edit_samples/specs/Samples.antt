@@ -15,5 +15,5 @@ edit_refusal c trace rows words a b samples =
 
 -- The words of a trace from the word `first` on and the samples have changed places.
 pub record Swapped (trace samples : List ℕ) (first : ℕ) (trace' samples' : List ℕ) : Type 0 where
-  pub trace-is : Written (λ j. get_or samples (j - first) 0) first (first + length samples) trace trace'
-  pub samples-are : Written (λ i. get_or trace (first + i) 0) 0 (length samples) samples samples'
+  pub trace_is : Written (λ j. get_or samples (j - first) 0) first (first + length samples) trace trace'
+  pub samples_are : Written (λ i. get_or trace (first + i) 0) 0 (length samples) samples samples'

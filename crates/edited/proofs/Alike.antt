@@ -21,7 +21,7 @@ refused-alike config trace trace' rows words a b e = rw e
 -- one cycle is the lowest
 lowest-once : {config : Config} {words : List ℕ} {t t' : ℕ} → LowestImpossible config words t → LowestImpossible config words t' → t' ≤ t
 lowest-once {t = t} {t' = t'} l l' =
-    ⊎_elim (λ p. absurd (of-false l.impossible (l'.lower-possible t (ltb-true t t' p)))) (ltb-false t t') (either (ltb t t'))
+    ⊎_elim (λ p. absurd (of-false l.impossible (l'.lower_possible t (ltb-true t t' p)))) (ltb-false t t') (either (ltb t t'))
 
 pub named-alike : {config : Config} {words : List ℕ} {r t t' : ℕ} → Named config words r t → Named config words r t' → t' ≡ t
 named-alike {r = r} n n' =

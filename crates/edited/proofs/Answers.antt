@@ -22,29 +22,29 @@ abbrev zeros : List ℤ
 zeros = replicate marks (pos 0)
 
 pub not_done : {n r : ℕ} → r ≡ n → NotDone n r 0 0 zeros
-not_done e = record { refusal_is = e; cycle-is = refl; end_is = refl; changes-are = λ i h. get_or-replicate marks i (pos 0) (pos 0) h }
+not_done e = record { refusal_is = e; cycle_is = refl; end_is = refl; changes_are = λ i h. get_or-replicate marks i (pos 0) (pos 0) h }
 
 module _ {c : Config} {old rows₀ words₀ rows words : List ℕ} {r : ℕ} (check : CheckAnswer c old rows₀ words₀ rows words r) where
   pub refused : {t : ℕ} {f : Frame} → (r ≡ 0 → ⊥) → Replaced c old rows₀ words₀ t f old rows words r 0 0 zeros
   refused h = record {
     done = λ z _. absurd (h (check.refusal_is ∙ z));
-    refused = λ _. (not_done check.refusal_is, refl, check.rows-kept h, check.words-kept h);
-    no-cycle = λ z _. absurd (h (check.refusal_is ∙ z));
+    refused = λ _. (not_done check.refusal_is, refl, check.rows_kept h, check.words_kept h);
+    no_cycle = λ z _. absurd (h (check.refusal_is ∙ z));
   }
 
   module _ (z : r ≡ 0) where
     accepted : check_refusal c old rows₀ words₀ ≡ 0
     accepted = sym check.refusal_is ∙ z
 
-    pub no-cycle : {t : ℕ} {f : Frame} → length rows ≤ t → Replaced c old rows₀ words₀ t f old rows words 6 0 0 zeros
-    no-cycle h = record {
-      done = λ _ k. absurd (omega (arith, (check.done z).rows-length));
+    pub no_cycle : {t : ℕ} {f : Frame} → length rows ≤ t → Replaced c old rows₀ words₀ t f old rows words 6 0 0 zeros
+    no_cycle h = record {
+      done = λ _ k. absurd (omega (arith, (check.done z).rows_length));
       refused = λ n. absurd (n accepted);
-      no-cycle = λ _ _. (not_done refl, refl, check.done z);
+      no_cycle = λ _ _. (not_done refl, refl, check.done z);
     }
 
     pub has-cycle : {t : ℕ} → t < length rows → t < frames old
-    has-cycle h = omega (arith, (check.done z).rows-length)
+    has-cycle h = omega (arith, (check.done z).rows_length)
 
     -- the recheck's demand, for the old trace
     pub done : {t : ℕ} {f : Frame} {trace rows' words' : List ℕ} {refusal cycle e : ℕ} {changes : List ℤ} → t < length rows → Stored old trace t f
@@ -60,12 +60,12 @@ module _ {c : Config} {old rows₀ words₀ rows words : List ℕ} {r : ℕ} (ch
               λ _ _.
               record {
                 stored = put;
-                old-rows = rows;
-                old-words = words;
-                old-record = check.done z;
+                old_rows = rows;
+                old_words = words;
+                old_record = check.done z;
                 demanded = met;
-                names-none = answer.tested.named.otherwise (λ n. absurd (omega (arith, met.not-refused)));
+                names_none = answer.tested.named.otherwise (λ n. absurd (omega (arith, met.not_refused)));
               };
           refused = λ n. absurd (n accepted);
-          no-cycle = λ _ k. absurd (omega (arith, has-cycle h));
+          no_cycle = λ _ k. absurd (omega (arith, has-cycle h));
         }

@@ -23,9 +23,9 @@ pub refused : (config : Config) (old : Held) (a b : ℕ) (samples : List ℕ) {r
 refused config old a b samples is h none_is =
     let same = rw is at none_is in
     record {
-      trace-kept = refl;
-      samples-kept = refl;
-      refused = λ _. record { rows-kept = refl; words-kept = refl; first-is = same; second_is = same };
+      trace_kept = refl;
+      samples_kept = refl;
+      refused = λ _. record { rows_kept = refl; words_kept = refl; first_is = same; second_is = same };
       done = λ z. absurd (h (is ∙ z));
       spoiled = λ z _. absurd (h (is ∙ z));
       taken_back = λ z _. absurd (h (is ∙ z));
@@ -42,7 +42,7 @@ module _ {config : Config} {old : Held} {a b : ℕ} {samples : List ℕ} (ok : E
 
   pub room-again : {edited : Held} {samples₁ : List ℕ} {first : RecheckResult} → SwappedAndRechecked config a b samples samples₁ old edited first
       → frame_words * a + length samples₁ ≤ length edited.trace
-  room-again there = omega (arith, room, there.swapped.trace-is.same_length, there.swapped.samples-are.same_length)
+  room-again there = omega (arith, room, there.swapped.trace_is.same_length, there.swapped.samples_are.same_length)
 
   module _
       {edited back : Held} {samples₁ samples₂ : List ℕ} {first second : RecheckResult}
@@ -55,8 +55,8 @@ module _ {config : Config} {old : Held} {a b : ℕ} {samples : List ℕ} (ok : E
       edit = record {
         low = ok.low;
         high = ok.high;
-        edited = written-edited _ a b old.trace edited.trace (rw samples-end at there.swapped.trace-is);
-        samples-are = λ t _ _. refl;
+        edited = written-edited _ a b old.trace edited.trace (rw samples-end at there.swapped.trace_is);
+        samples_are = λ t _ _. refl;
         rechecked = there.rechecked;
       }
 
@@ -64,9 +64,9 @@ module _ {config : Config} {old : Held} {a b : ℕ} {samples : List ℕ} (ok : E
       unfolding frames
       restores = record {
         low = ok.low;
-        high = omega (arith, ok.high, there.swapped.trace-is.same_length);
-        edited = written-edited _ a b edited.trace back.trace (rw (there.swapped.samples-are.same_length, samples-end) at again.swapped.trace-is);
-        samples-are = λ t _ _. ap (λ (l : List ℕ). frame_at l t) same;
+        high = omega (arith, ok.high, there.swapped.trace_is.same_length);
+        edited = written-edited _ a b edited.trace back.trace (rw (there.swapped.samples_are.same_length, samples-end) at again.swapped.trace_is);
+        samples_are = λ t _ _. ap (λ (l : List ℕ). frame_at l t) same;
         rechecked = again.rechecked;
       }
 
@@ -74,30 +74,30 @@ module _ {config : Config} {old : Held} {a b : ℕ} {samples : List ℕ} (ok : E
       spoiled : (first.refusal ≡ 0 → ⊥) → Spoiled old back first second
       spoiled h =
           let kept = there.rechecked.refused h in
-          let tested = rw (kept.rows-kept, kept.words-kept) at again.rechecked.tested in
+          let tested = rw (kept.rows_kept, kept.words_kept) at again.rechecked.tested in
           let refusal_is : second.refusal ≡ first.refusal =
-          tested.refusal_is ∙ refused-alike config back.trace edited.trace old.rows old.words a b again.swapped.trace-is.same_length
+          tested.refusal_is ∙ refused-alike config back.trace edited.trace old.rows old.words a b again.swapped.trace_is.same_length
           ∙ sym there.rechecked.tested.refusal_is in
           let kept' = again.rechecked.refused (λ z. h (sym refusal_is ∙ z)) in
           record {
-            rows-kept = kept'.rows-kept ∙ kept.rows-kept;
-            words-kept = kept'.words-kept ∙ kept.words-kept;
-            same-refusal = refusal_is;
-            same-cycle = named-alike there.rechecked.tested.named (rw refusal_is at tested.named);
+            rows_kept = kept'.rows_kept ∙ kept.rows_kept;
+            words_kept = kept'.words_kept ∙ kept.words_kept;
+            same_refusal = refusal_is;
+            same_cycle = named-alike there.rechecked.tested.named (rw refusal_is at tested.named);
           }
 
       pub done : BackAnswer config a b samples samples₂ old back first second
       done = record {
-        trace-kept = same;
-        samples-kept = samples-back there.swapped again.swapped;
+        trace_kept = same;
+        samples_kept = samples-back there.swapped again.swapped;
         refused = λ n. absurd (n ok.accepted);
-        done = λ _. record { edited = edited; samples-are = rw samples-end at there.swapped.trace-is; edit-rechecked = there.rechecked; back-rechecked = again.rechecked };
+        done = λ _. record { edited = edited; samples_are = rw samples-end at there.swapped.trace_is; edit_rechecked = there.rechecked; back_rechecked = again.rechecked };
         spoiled = λ _. spoiled;
         taken_back =
             λ _ true-record.
             takes_back config a b (frame_at edited.trace) old edited back first second
             (record {
-              from-true = record { good = ok.lengths.good; fits = ok.lengths.fits; record_is = true-record };
+              from_true = record { good = ok.lengths.good; fits = ok.lengths.fits; record_is = true-record };
               edit = edit;
               restores = restores;
             });

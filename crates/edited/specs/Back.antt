@@ -21,29 +21,29 @@ refusal_of config held a b samples = edit_refusal config held.trace held.rows he
 -- Two rechecks: one of the trace with the samples in cycles a to b−1, and one of the old trace.
 pub record TwoRechecks (config : Config) (a b : ℕ) (samples : List ℕ) (old back : Held) (first second : RecheckResult) : Type 0 where
   pub edited : Held
-  pub samples-are : Written (λ j. get_or samples (j - frame_words * a) 0) (frame_words * a) (frame_words * b) old.trace edited.trace
-  pub edit-rechecked : Rechecks config a b old edited first
-  pub back-rechecked : Rechecks config a b edited back second
+  pub samples_are : Written (λ j. get_or samples (j - frame_words * a) 0) (frame_words * a) (frame_words * b) old.trace edited.trace
+  pub edit_rechecked : Rechecks config a b old edited first
+  pub back_rechecked : Rechecks config a b edited back second
 
 -- refused: nothing is altered, and both answers are the refusal number with zeros
 pub record NotEdited (number : ℕ) (old back : Held) (first second : RecheckResult) : Type 0 where
-  pub rows-kept : back.rows ≡ old.rows
-  pub words-kept : back.words ≡ old.words
-  pub first-is : NotDone number first.refusal first.cycle first.end first.changes
+  pub rows_kept : back.rows ≡ old.rows
+  pub words_kept : back.words ≡ old.words
+  pub first_is : NotDone number first.refusal first.cycle first.end first.changes
   pub second_is : NotDone number second.refusal second.cycle second.end second.changes
 
 -- refused for a kept word, which is for a recheck to tell (7): nothing is altered, and both answers are the same
 pub record Spoiled (old back : Held) (first second : RecheckResult) : Type 0 where
-  pub rows-kept : back.rows ≡ old.rows
-  pub words-kept : back.words ≡ old.words
-  pub same-refusal : second.refusal ≡ first.refusal
-  pub same-cycle : second.cycle ≡ first.cycle
+  pub rows_kept : back.rows ≡ old.rows
+  pub words_kept : back.words ≡ old.words
+  pub same_refusal : second.refusal ≡ first.refusal
+  pub same_cycle : second.cycle ≡ first.cycle
 
 -- What the call leaves: the trace and the samples as they were, on any input; what two rechecks leave and answer; and, from a true record, all that §12 says of an
 -- edit that is taken back.
 pub record BackAnswer (config : Config) (a b : ℕ) (samples samples' : List ℕ) (old back : Held) (first second : RecheckResult) : Type 0 where
-  pub trace-kept : back.trace ≡ old.trace
-  pub samples-kept : samples' ≡ samples
+  pub trace_kept : back.trace ≡ old.trace
+  pub samples_kept : samples' ≡ samples
   pub refused : (refusal_of config old a b samples ≡ 0 → ⊥) → NotEdited (refusal_of config old a b samples) old back first second
   pub done : refusal_of config old a b samples ≡ 0 → TwoRechecks config a b samples old back first second
   pub spoiled : refusal_of config old a b samples ≡ 0 → (first.refusal ≡ 0 → ⊥) → Spoiled old back first second

@@ -18,18 +18,18 @@ pub record Stored (old trace : List ℕ) (t : ℕ) (f : Frame) : Type 0 where
 pub record Done
     (c : Config) (old : List ℕ) (t : ℕ) (f : Frame) (trace rows words : List ℕ) (refusal cycle e : ℕ) (changes : List ℤ) : Type 0 where
   pub stored : Stored old trace t f
-  pub old-rows : List ℕ
-  pub old-words : List ℕ
-  pub old-record : TrueRecord c old old-rows old-words
-  pub demanded : Demanded c old trace old-rows (suc t) rows words refusal e changes
-  pub names-none : cycle ≡ 0
+  pub old_rows : List ℕ
+  pub old_words : List ℕ
+  pub old_record : TrueRecord c old old_rows old_words
+  pub demanded : Demanded c old trace old_rows (suc t) rows words refusal e changes
+  pub names_none : cycle ≡ 0
 
 -- otherwise: the refusal number, and zeros for the other numbers
 pub record NotDone (number refusal cycle e : ℕ) (changes : List ℤ) : Type 0 where
   pub refusal_is : refusal ≡ number
-  pub cycle-is : cycle ≡ 0
+  pub cycle_is : cycle ≡ 0
   pub end_is : e ≡ 0
-  pub changes-are : (i : ℕ) → i < marks → get_or changes i (pos 0) ≡ pos 0
+  pub changes_are : (i : ℕ) → i < marks → get_or changes i (pos 0) ≡ pos 0
 
 pub record Replaced
     (c : Config) (old rows₀ words₀ : List ℕ) (t : ℕ) (f : Frame) (trace rows words : List ℕ) (refusal cycle e : ℕ) (changes : List ℤ) : Type 0 where
@@ -38,4 +38,4 @@ pub record Replaced
   pub refused : (check_refusal c old rows₀ words₀ ≡ 0 → ⊥)
       → NotDone (check_refusal c old rows₀ words₀) refusal cycle e changes × (trace ≡ old) × (rows ≡ rows₀) × (words ≡ words₀)
   -- no such cycle: the record of the trace as it is
-  pub no-cycle : check_refusal c old rows₀ words₀ ≡ 0 → frames old ≤ t → NotDone 6 refusal cycle e changes × (trace ≡ old) × TrueRecord c old rows words
+  pub no_cycle : check_refusal c old rows₀ words₀ ≡ 0 → frames old ≤ t → NotDone 6 refusal cycle e changes × (trace ≡ old) × TrueRecord c old rows words

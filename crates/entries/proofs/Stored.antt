@@ -12,15 +12,15 @@ use Rattle.entries.specs.Entries.{Stored}
 
 pub stored-none : (list : List ℕ) (at : ℕ) → Stored [] list at list at
 unfolding words_of
-stored-none list at = record { next-is = omega arith; list-is = refl }
+stored-none list at = record { next_is = omega arith; list_is = refl }
 
 pub stored-length : {es : List Entry} {list : List ℕ} {at : ℕ} {list' : List ℕ} {next : ℕ} → Stored es list at list' next → length list' ≡ length list
-stored-length {es} {list} {at} s = ap length s.list-is ∙ length-sets list at (words_of es)
+stored-length {es} {list} {at} s = ap length s.list_is ∙ length-sets list at (words_of es)
 
 pub stored_on : {es fs : List Entry} {list list' list'' : List ℕ} {at next last : ℕ} → Stored es list at list' next → Stored fs list' next list'' last
     → Stored (es ++ fs) list at list'' last
 stored_on {es} {fs} {list} {at = at} {next} s u = record {
-  next-is = omega (arith, s.next-is, u.next-is, length-append es fs);
-  list-is =
-      u.list-is ∙ ap (λ (l : List ℕ). sets l next (words_of fs)) s.list-is ∙ sets-entries list at next es fs s.next-is;
+  next_is = omega (arith, s.next_is, u.next_is, length-append es fs);
+  list_is =
+      u.list_is ∙ ap (λ (l : List ℕ). sets l next (words_of fs)) s.list_is ∙ sets-entries list at next es fs s.next_is;
 }

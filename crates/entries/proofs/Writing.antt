@@ -52,7 +52,7 @@ module _ {lost t : ℕ} {list₀ : List ℕ} {at : ℕ} {list : List ℕ} {rest 
           arith,
           h,
           stored-length w.stored,
-          w.stored.next-is,
+          w.stored.next_is,
           ap length w.left,
           length-append w.written (attempt_entries rest t),
           ap length first,

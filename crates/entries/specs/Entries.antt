@@ -14,5 +14,5 @@ window_entries failed illegal t s = cond failed (entry t 1 s ∷ []) [] ++ cond 
 
 -- The words of entries stand from `at` on, `next` is the place behind them, and nothing else is altered.
 pub record Stored (es : List Entry) (list : List ℕ) (at : ℕ) (list' : List ℕ) (next : ℕ) : Type 0 where
-  pub next-is : next ≡ at + 3 * length es
-  pub list-is : list' ≡ sets list at (words_of es)
+  pub next_is : next ≡ at + 3 * length es
+  pub list_is : list' ≡ sets list at (words_of es)

@@ -21,7 +21,7 @@ use Rattle.lengths.proofs.Refusals.{Accepted, check-accepted, accepted-short}
 use Rattle.listed.specs.Lists.{words_of}
 use Rattle.passes.specs.Listed.{failures_of}
 use Rattle.failures.specs.Answers.{list_refusal, ListAnswer}
-use Rattle.listed.proofs.Chosen.{words-length}
+use Rattle.listed.proofs.Chosen.{words_length}
 
 -- r is the refusal of the lengths, for as many cycles as the trace has
 module _
@@ -78,7 +78,7 @@ module _
           pub all-written : count ≤ 64 * 65536 → (list' : List ℕ) → list' ≡ sets list 0 (words_of (failures_of c trace)) → ListAnswer c trace list list' 0 count
           all-written few list' e =
               let words = words_of (failures_of c trace) in
-              let long : 0 + length words ≡ 3 * length (failures_of c trace) = zero-add (length words) ∙ words-length (failures_of c trace) in
+              let long : 0 + length words ≡ 3 * length (failures_of c trace) = zero-add (length words) ∙ words_length (failures_of c trace) in
               record {
                 refusal_is = sym (decided true (le-leb (3 * length (failures_of c trace)) (length list) all_fit));
                 done = λ _. (all, e ∙ sets-eq words list 0 (omega (arith, long, all_fit)) ∙ ap (λ (k : ℕ). words ++ drop k list) long);

@@ -43,11 +43,11 @@ module _ (checkers cycles : ℕ) (rows : List ℕ) where
 
   pub found_first : (t k : ℕ) → k < checkers → t < cycles → Clean t → CleanIn t k → failing (row_at rows cycles k t) ≡ true → Searched checkers cycles rows 0 true k t
   found_first t k h l c i e = record {
-    not-refused = refl;
-    first = λ _. record { in-checkers = h; in-cycles = l; fails = of-true e; no-earlier = c; no-smaller = i };
+    not_refused = refl;
+    first = λ _. record { in_checkers = h; in_cycles = l; fails = of-true e; no_earlier = c; no_smaller = i };
     none = λ z. absurd (of-false z tt);
-    none-numbers = λ z. absurd (of-false z tt);
+    none_numbers = λ z. absurd (of-false z tt);
   }
 
   pub found_none : Clean cycles → Searched checkers cycles rows 0 false 0 0
-  found_none c = record { not-refused = refl; first = λ z. absurd (of-true z); none = λ _. c; none-numbers = λ _. (refl, refl) }
+  found_none c = record { not_refused = refl; first = λ z. absurd (of-true z); none = λ _. c; none_numbers = λ _. (refl, refl) }

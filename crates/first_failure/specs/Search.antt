@@ -35,18 +35,18 @@ cycle_of (At k t) = t
 
 -- "The smallest cycle with mark 1 or 2, then the smallest checker"
 pub record First (checkers cycles : ℕ) (rows : List ℕ) (checker cycle : ℕ) : Type 0 where
-  pub in-checkers : checker < checkers
-  pub in-cycles : cycle < cycles
+  pub in_checkers : checker < checkers
+  pub in_cycles : cycle < cycles
   pub fails : T (failing (row_at rows cycles checker cycle))
-  pub no-earlier : (k t : ℕ) → k < checkers → t < cycle → T (failing (row_at rows cycles k t)) → ⊥
-  pub no-smaller : (k : ℕ) → k < checker → T (failing (row_at rows cycles k cycle)) → ⊥
+  pub no_earlier : (k t : ℕ) → k < checkers → t < cycle → T (failing (row_at rows cycles k t)) → ⊥
+  pub no_smaller : (k : ℕ) → k < checker → T (failing (row_at rows cycles k cycle)) → ⊥
 
 -- what is answered where nothing is refused: "'none' exactly if no row has either mark"
 pub record Searched (checkers cycles : ℕ) (rows : List ℕ) (refusal : ℕ) (found : Bool) (checker cycle : ℕ) : Type 0 where
-  pub not-refused : refusal ≡ 0
+  pub not_refused : refusal ≡ 0
   pub first : found ≡ true → First checkers cycles rows checker cycle
   pub none : found ≡ false → (k t : ℕ) → k < checkers → t < cycles → T (failing (row_at rows cycles k t)) → ⊥
-  pub none-numbers : found ≡ false → (checker ≡ 0) × (cycle ≡ 0)
+  pub none_numbers : found ≡ false → (checker ≡ 0) × (cycle ≡ 0)
 
 -- refused: "every other number answered is 0"
 pub record SearchAnswer (checkers cycles : ℕ) (rows : List ℕ) (refusal : ℕ) (found : Bool) (checker cycle : ℕ) : Type 0 where

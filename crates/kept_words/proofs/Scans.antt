@@ -19,10 +19,10 @@ module _ (c : Config) (words : List ℕ) (from to : ℕ) where
   pub record Passed (t : ℕ) : Type 0 where
     pub low : from ≤ t
     pub high : t ≤ to
-    pub lower-possible : (s : ℕ) → from ≤ s → s < t → T (possible c (get_or words s 0))
+    pub lower_possible : (s : ℕ) → from ≤ s → s < t → T (possible c (get_or words s 0))
 
   pub passed_none : from ≤ to → Passed from
-  passed_none h = record { low = le_refl from; high = h; lower-possible = λ s l g. absurd (omega arith) }
+  passed_none h = record { low = le_refl from; high = h; lower_possible = λ s l g. absurd (omega arith) }
 
   module _ {t : ℕ} (p : Passed t) where
     -- up to u, where the words from t on are possible
@@ -30,8 +30,8 @@ module _ (c : Config) (words : List ℕ) (from to : ℕ) where
     passed_on u l h here = record {
       low = omega (arith, p.low);
       high = h;
-      lower-possible = λ s m g.
-          ⊎_elim (λ (e : ltb s t ≡ true). p.lower-possible s m (ltb-true s t e)) (λ (e : ltb s t ≡ false). here s (ltb-false s t e) g) (either (ltb s t));
+      lower_possible = λ s m g.
+          ⊎_elim (λ (e : ltb s t ≡ true). p.lower_possible s m (ltb-true s t e)) (λ (e : ltb s t ≡ false). here s (ltb-false s t e) g) (either (ltb s t));
     }
 
     pub passed-one : t < to → possible c (get_or words t 0) ≡ true → Passed (suc t)
@@ -40,20 +40,20 @@ module _ (c : Config) (words : List ℕ) (from to : ℕ) where
         (λ s l g. let same : t ≡ s = omega arith in subst (λ (k : ℕ). T (possible c (get_or words k 0))) same (of-true e))
 
     pub first-at : possible c (get_or words t 0) ≡ false → FirstImpossible c words from to t
-    first-at e = record { low = p.low; high = p.high; impossible = λ _. e; lower-possible = p.lower-possible }
+    first-at e = record { low = p.low; high = p.high; impossible = λ _. e; lower_possible = p.lower_possible }
 
     pub first-none : to ≤ t → FirstImpossible c words from to t
-    first-none h = record { low = p.low; high = p.high; impossible = λ l. absurd (omega arith); lower-possible = p.lower-possible }
+    first-none h = record { low = p.low; high = p.high; impossible = λ l. absurd (omega arith); lower_possible = p.lower_possible }
 
     -- the lowest of a block behind them is the lowest of all; a block without one is passed
     module _ {u r : ℕ} (fits : u ≤ to) (b : FirstImpossible c words t u r) where
       pub first-in : r < u → FirstImpossible c words from to r
       first-in h =
-          let q = passed_on r b.low (omega arith) b.lower-possible in
-          record { low = q.low; high = q.high; impossible = λ _. b.impossible h; lower-possible = q.lower-possible }
+          let q = passed_on r b.low (omega arith) b.lower_possible in
+          record { low = q.low; high = q.high; impossible = λ _. b.impossible h; lower_possible = q.lower_possible }
 
       pub passed-block : u ≤ r → Passed u
-      passed-block h = passed_on u (omega (arith, b.low, b.high)) fits (λ s l g. b.lower-possible s l (omega arith))
+      passed-block h = passed_on u (omega (arith, b.low, b.high)) fits (λ s l g. b.lower_possible s l (omega arith))
 
 -- a block whose words are all possible
 module _ (c : Config) (words : List ℕ) (from count : ℕ) where
@@ -62,7 +62,7 @@ module _ (c : Config) (words : List ℕ) (from count : ℕ) where
     low = omega arith;
     high = le_refl (from + count);
     impossible = λ l. absurd (omega arith);
-    lower-possible = λ s l g.
+    lower_possible = λ s l g.
         let same : from + (s - from) ≡ s = omega arith in
         subst (λ (k : ℕ). T (possible c (get_or words k 0))) same (h (s - from) (omega arith));
   }

@@ -13,4 +13,4 @@ pub record FirstImpossible (c : Config) (words : List ℕ) (from to t : ℕ) : T
   pub low : from ≤ t
   pub high : t ≤ to
   pub impossible : t < to → possible c (slice_index words t) ≡ false
-  pub lower-possible : (s : ℕ) → from ≤ s → s < t → T (possible c (slice_index words s))
+  pub lower_possible : (s : ℕ) → from ≤ s → s < t → T (possible c (slice_index words s))

@@ -100,11 +100,11 @@ module _ (c : Config) (tr : Trace) (known : Known tr) where
   unfolding up Before.up
   up_is t = simp (known-reset, without-none)
 
-  enabled-is : (t : ℕ) → enabled (tr t) ≡ Before.enabled (tr t)
+  enabled_is : (t : ℕ) → enabled (tr t) ≡ Before.enabled (tr t)
   unfolding enabled Before.enabled
-  enabled-is t = simp (up_is, known-reset, without-none)
+  enabled_is t = simp (up_is, known-reset, without-none)
 
-  ruleset frames-known = (up_is, enabled-is, known-P, known-Q, known-R, without-none, value-zero, no-bit, and-true, and-false)
+  ruleset frames-known = (up_is, enabled_is, known-P, known-Q, known-R, without-none, value-zero, no-bit, and-true, and-false)
 
   -- ---- the checks of each family
 
@@ -152,15 +152,15 @@ module _ (c : Config) (tr : Trace) (known : Known tr) where
   unfolding reference Before.reference
   reference-is s t = ap₂ (at_first t) (fun_ext (compared_is s)) (simp frames-known)
 
-  value-is : value_checks c tr ≡ without_doubt (Before.value_checks c tr)
+  value_is : value_checks c tr ≡ without_doubt (Before.value_checks c tr)
   unfolding said without_doubt value_checks trigger_checks trigger_seen Before.value_checks Before.trigger_checks
-  value-is = checks-are _ _ (λ s t. simp (frames-known, pends-is, compared_is)) refl
+  value_is = checks-are _ _ (λ s t. simp (frames-known, pends-is, compared_is)) refl
 
   stability-is : stability_checks c tr ≡ without_doubt (Before.stability_checks c tr)
   unfolding said without_doubt stability_checks trigger_checks trigger_seen Before.stability_checks Before.trigger_checks
   stability-is = checks-are _ _ (λ s t. simp (frames-known, pends-is, compared_is, has-is, reference-is)) refl
 
-  ruleset checks-known = (sequence-is, time-is, transition-is, value-is, stability-is, accepted-is, pending-is, busy-is, fails-is, no-doubts)
+  ruleset checks-known = (sequence-is, time-is, transition-is, value_is, stability-is, accepted-is, pending-is, busy-is, fails-is, no-doubts)
 
   -- ---- rows and words
 
@@ -194,9 +194,9 @@ module _ (c : Config) (tr : Trace) (known : Known tr) where
   unfolding row Before.row
   row_is t = simp (stopped-is, going-is)
 
-  word-is : (t : ℕ) → word c tr t ≡ Before.word c tr t
+  word_is : (t : ℕ) → word c tr t ≡ Before.word c tr t
   unfolding word going_word Before.word Before.going_word
-  word-is t = simp (stopped-is, up_is, open_is)
+  word_is t = simp (stopped-is, up_is, open_is)
 
 pub known-as-before : (c : Config) (tr : Trace) → Known tr → AsBefore c tr
-known-as-before c tr known = record { rows = row_is c tr known; words = word-is c tr known }
+known-as-before c tr known = record { rows = row_is c tr known; words = word_is c tr known }

@@ -24,8 +24,8 @@ check-refusal c ts rs ws trace rows words cycles p q r k a b d e f g = rw (p, q,
 pub record Accepted (c : Config) (trace rows words : List ℕ) : Type 0 where
   pub good : Good c
   pub fits : T (trace_fits trace)
-  pub rows-length : length rows ≡ frames trace
-  pub words-length : length words ≡ frames trace
+  pub rows_length : length rows ≡ frames trace
+  pub words_length : length words ≡ frames trace
 
 -- the tests behind a refusal number of 0
 pub check-accepted : (c : Config) (trace rows words : List ℕ) → check_refusal c trace rows words ≡ 0 → Accepted c trace rows words
@@ -38,8 +38,8 @@ check-accepted c trace rows words h =
     by true true true true p q r s z = record {
       good = eqb-true (config_refusal c) 0 p;
       fits = of-true q;
-      rows-length = eqb-true (length rows) (frames trace) r;
-      words-length = eqb-true (length words) (frames trace) s;
+      rows_length = eqb-true (length rows) (frames trace) r;
+      words_length = eqb-true (length words) (frames trace) s;
     }
     by true true true false p q r s z = absurd (omega arith)
     by true true false e p q r s z = absurd (omega arith)

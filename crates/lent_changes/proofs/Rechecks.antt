@@ -23,14 +23,14 @@ module _ {c : Config} {trace rows words : List ℕ} {a b : ℕ} where
   module _ {answer : List ℤ} {tested : ℕ} (wrong : length answer ≡ suc marks → ⊥) (is : tested ≡ check_refusal c trace rows words) where
     pub five-due : tested ≡ 0 → HostRecheck c trace rows words a b answer rows words answer 5 0
     five-due z = record {
-      wrong-length = λ _. (simp (eq-eqb (check_refusal c trace rows words) 0 (sym is ∙ z)), refl, refl, refl, refl);
-      right-length = λ due. absurd (wrong due);
+      wrong_length = λ _. (simp (eq-eqb (check_refusal c trace rows words) 0 (sym is ∙ z)), refl, refl, refl, refl);
+      right_length = λ due. absurd (wrong due);
     }
 
     pub earlier-due : (tested ≡ 0 → ⊥) → HostRecheck c trace rows words a b answer rows words answer tested 0
     earlier-due h = record {
-      wrong-length = λ _. (simp (ne_eqb (check_refusal c trace rows words) 0 (λ z. h (is ∙ z))) is, refl, refl, refl, refl);
-      right-length = λ due. absurd (wrong due);
+      wrong_length = λ _. (simp (ne_eqb (check_refusal c trace rows words) 0 (λ z. h (is ∙ z))) is, refl, refl, refl, refl);
+      right_length = λ due. absurd (wrong due);
     }
 
   module _ {rows' words' : List ℕ} {r t e : ℕ} {changes : List ℤ} (done : RecheckAnswer c trace rows words a b rows' words' r t e changes) where
@@ -44,15 +44,15 @@ module _ {c : Config} {trace rows words : List ℕ} {a b : ℕ} where
 
     pub refused : {answer : List ℤ} → length answer ≡ suc marks → (r ≡ 0 → ⊥) → HostRecheck c trace rows words a b answer rows' words' answer r t
     refused due h = record {
-      wrong-length = λ wrong. absurd (wrong due);
-      right-length = λ _. record { end = e; changes = changes; rechecked = done; stored = λ z. absurd (h z); kept = λ _. refl };
+      wrong_length = λ wrong. absurd (wrong due);
+      right_length = λ _. record { end = e; changes = changes; rechecked = done; stored = λ z. absurd (h z); kept = λ _. refl };
     }
 
     pub stored : {answer answer' : List ℤ} → length answer ≡ suc marks → r ≡ 0 → answer' ≡ pos e ∷ changes
         → HostRecheck c trace rows words a b answer rows' words' answer' 0 0
     stored due z s = record {
-      wrong-length = λ wrong. absurd (wrong due);
-      right-length = λ _. record {
+      wrong_length = λ wrong. absurd (wrong due);
+      right_length = λ _. record {
         end = e;
         changes = changes;
         rechecked = subst (λ (y : ℕ). RecheckAnswer c trace rows words a b rows' words' 0 y e changes) (none_named z) (subst (λ (x : ℕ). RecheckAnswer c trace rows words a b rows' words' x t e changes) z done);
@@ -72,6 +72,6 @@ module _ {c : Config} {trace rows words : List ℕ} {a b : ℕ} where
         (λ (f : eqb r 7 ≡ true).
         let seven = eqb-true r 7 f in
         let ok = fits (λ l. absurd (omega arith)) in
-        omega (arith, (done.tested.named.spoiled seven).in-record, ok.words-length, accepted-short ok))
+        omega (arith, (done.tested.named.spoiled seven).in_record, ok.words_length, accepted-short ok))
         (λ (f : eqb r 7 ≡ false). omega (arith, done.tested.named.otherwise (eqb-false r 7 f)))
         (either (eqb r 7))

@@ -19,6 +19,6 @@ pub record RecheckStored
 -- due", refusal 5, after 1 to 4. Refused: the slice is as it was.
 pub record HostRecheck
     (c : Config) (trace rows words : List ℕ) (a b : ℕ) (answer : List ℤ) (rows' words' : List ℕ) (answer' : List ℤ) (refusal cycle : ℕ) : Type 0 where
-  pub wrong-length : (length answer ≡ suc marks → ⊥)
+  pub wrong_length : (length answer ≡ suc marks → ⊥)
       → (refusal ≡ cond (eqb (check_refusal c trace rows words) 0) 5 (check_refusal c trace rows words)) × (cycle ≡ 0) × (rows' ≡ rows) × (words' ≡ words) × (answer' ≡ answer)
-  pub right-length : length answer ≡ suc marks → RecheckStored c trace rows words a b answer rows' words' answer' refusal cycle
+  pub right_length : length answer ≡ suc marks → RecheckStored c trace rows words a b answer rows' words' answer' refusal cycle

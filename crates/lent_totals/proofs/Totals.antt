@@ -10,8 +10,8 @@ use Rattle.counts.specs.Counts.{TotalsAnswer, AreTotals}
 use Rattle.lent_totals.specs.Answers.{HostTotals}
 
 module _ {rows counts : List ℕ} where
-  pub wrong-length : (length counts ≡ marks → ⊥) → HostTotals rows counts counts 5
-  wrong-length h = record { refusal_is = simp (ne_eqb (length counts) marks h); done = λ z. absurd (omega arith); kept = λ _. refl }
+  pub wrong_length : (length counts ≡ marks → ⊥) → HostTotals rows counts counts 5
+  wrong_length h = record { refusal_is = simp (ne_eqb (length counts) marks h); done = λ z. absurd (omega arith); kept = λ _. refl }
 
   module _ {r : ℕ} {found : List ℕ} (due : length counts ≡ marks) (t : TotalsAnswer rows r found) where
     pub too_many : (r ≡ 0 → ⊥) → HostTotals rows counts counts r

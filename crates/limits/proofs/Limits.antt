@@ -71,7 +71,7 @@ module _ (c : Config) (good : Good c) (on : c.severity ≡ 0) (g : Family) (fami
         (step-any k _ _ (frame_at trace (b + k)) (after k (omega arith)))
       where
         next : (tr : Trace) → word c tr (b + k) ≡ step_word c (word_before c tr (b + k)) (tr (b + k))
-        next tr = (step-is-rules c good tr (b + k)).word-is
+        next tr = (step-is-rules c good tr (b + k)).word_is
 
     limit : Ends (word_before c (frame_at trace)) (word_before c (frame_at old)) b (frames trace) e → e ≤ b + d
     limit r =

@@ -67,14 +67,14 @@ unfolding words_of
 words_append [] fs = refl
 words_append (e ∷ es) fs = ap (λ (l : List ℕ). e.cycle ∷ e.mark ∷ e.start ∷ l) (words_append es fs)
 
-pub words-length : (es : List Entry) → length (words_of es) ≡ 3 * length es
+pub words_length : (es : List Entry) → length (words_of es) ≡ 3 * length es
 unfolding words_of
-words-length [] = refl
-words-length (e ∷ es) = omega (arith, words-length es)
+words_length [] = refl
+words_length (e ∷ es) = omega (arith, words_length es)
 
 -- the words of entries stored behind those of entries
 pub sets-entries : (l : List ℕ) (i j : ℕ) (es fs : List Entry) → j ≡ i + 3 * length es
     → sets (sets l i (words_of es)) j (words_of fs) ≡ sets l i (words_of (es ++ fs))
 sets-entries l i j es fs e =
-    ap (λ (k : ℕ). sets (sets l i (words_of es)) k (words_of fs)) (e ∙ ap (λ (k : ℕ). i + k) (sym (words-length es)))
+    ap (λ (k : ℕ). sets (sets l i (words_of es)) k (words_of fs)) (e ∙ ap (λ (k : ℕ). i + k) (sym (words_length es)))
     ∙ sym (sets-append l i (words_of es) (words_of fs)) ∙ ap (sets l i) (sym (words_append es fs))

@@ -96,13 +96,13 @@ pub record Storing (w first x : ℕ) (picked₀ : List ℕ) (at : ℕ) (picked :
   pub stored : List ℕ
   pub long : length picked ≡ block_cycles
   pub are : take next picked ≡ take at picked₀ ++ map (λ s. first + s) stored
-  pub next-is : next ≡ at + length stored
+  pub next_is : next ≡ at + length stored
   pub left : stored ++ places w rest ≡ places w x
   pub small : rest < 2 ^ w
 
 pub storing-none : (w first x : ℕ) (picked : List ℕ) (at : ℕ) → length picked ≡ block_cycles → x < 2 ^ w → Storing w first x picked at picked x at
 storing-none w first x picked at long small =
-    record { stored = []; long = long; are = sym (append-nil (take at picked)); next-is = sym (add-zero at); left = refl; small = small }
+    record { stored = []; long = long; are = sym (append-nil (take at picked)); next_is = sym (add-zero at); left = refl; small = small }
 
 module _ {w first x : ℕ} {picked₀ : List ℕ} {at : ℕ} {picked : List ℕ} {rest next : ℕ} (d : Storing w first x picked₀ at picked rest next) where
   pub storing-all : rest ≡ 0 → (next ≡ at + length (places w x)) × (length picked ≡ block_cycles)
@@ -110,7 +110,7 @@ module _ {w first x : ℕ} {picked₀ : List ℕ} {at : ℕ} {picked : List ℕ}
   unfolding places
   storing-all z =
       let all : d.stored ≡ places w x = sym (append-nil d.stored) ∙ ap (λ (l : List ℕ). d.stored ++ l) (sym (ap (places w) z ∙ none_first w)) ∙ d.left in (
-        d.next-is ∙ ap (λ (l : List ℕ). at + length l) all,
+        d.next_is ∙ ap (λ (l : List ℕ). at + length l) all,
         d.long,
         d.are ∙ ap (λ (l : List ℕ). take at picked₀ ++ map (λ s. first + s) l) all,
       )
@@ -135,7 +135,7 @@ module _ {w first x : ℕ} {picked₀ : List ℕ} {at : ℕ} {picked : List ℕ}
     storing-room h =
         omega (
           arith,
-          d.next-is,
+          d.next_is,
           ap length d.left,
           length-append d.stored (places w rest),
           ap length next_place,
@@ -150,7 +150,7 @@ module _ {w first x : ℕ} {picked₀ : List ℕ} {at : ℕ} {picked : List ℕ}
           take-suc-set picked next v (omega (arith, d.long, room)) ∙ ap₂ (λ (l : List ℕ) (y : ℕ). l ++ y ∷ []) d.are e
           ∙ append_assoc (take at picked₀) (map (λ s. first + s) d.stored) ((first + (w - 1 - j)) ∷ [])
           ∙ ap (λ (l : List ℕ). take at picked₀ ++ l) (sym (map-append (λ s. first + s) d.stored ((w - 1 - j) ∷ [])));
-      next-is = omega (arith, d.next-is, length-append d.stored ((w - 1 - j) ∷ []));
+      next_is = omega (arith, d.next_is, length-append d.stored ((w - 1 - j) ∷ []));
       left =
           append_assoc d.stored ((w - 1 - j) ∷ []) (places w (rest - 2 ^ j)) ∙ ap (λ (l : List ℕ). d.stored ++ l) (sym next_place) ∙ d.left;
       small = omega (arith, d.small);

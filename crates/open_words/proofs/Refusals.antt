@@ -31,14 +31,14 @@ word-refusal-low c w = by (eqb (config_refusal c) 0) (possible c w)
 
 pub record Accepted (c : Config) (w : ℕ) : Type 0 where
   pub good : Good c
-  pub possible-word : T (possible c w)
+  pub possible_word : T (possible c w)
 
 -- what is not refused is a good configuration with a possible word
-pub not-refused : (c : Config) (w : ℕ) → word_refusal c w ≡ 0 → Accepted c w
+pub not_refused : (c : Config) (w : ℕ) → word_refusal c w ≡ 0 → Accepted c w
 unfolding word_refusal
-not-refused c w h = by (eqb (config_refusal c) 0) (possible c w) refl refl h
+not_refused c w h = by (eqb (config_refusal c) 0) (possible c w) refl refl h
   where
     by : (a b : Bool) → eqb (config_refusal c) 0 ≡ a → possible c w ≡ b → cond a (cond b 0 7) (config_refusal c) ≡ 0 → Accepted c w
-    by true true e f g = record { good = eqb-true (config_refusal c) 0 e; possible-word = of-true f }
+    by true true e f g = record { good = eqb-true (config_refusal c) 0 e; possible_word = of-true f }
     by true false e f g = absurd (omega arith)
     by false b e f g = absurd (eqb-false (config_refusal c) 0 e g)

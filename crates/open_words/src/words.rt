@@ -2,7 +2,7 @@
 ghost use Rattle.std.specs.Prelude.{◌≡◌, ◌&&◌, ◌-◌, ◌^◌, ◌<◌, leb, ltb};
 ghost use Rattle.rules.specs.Config.{Good, family};
 ghost use Rattle.rules.specs.Config.Family.{stability};
-ghost use Rattle.rules.specs.Possible.{without_reference, with_areference, going_possible, can_fail, possible, word_refusal};
+ghost use Rattle.rules.specs.Possible.{without_reference, with_a_reference, going_possible, can_fail, possible, word_refusal};
 
 use bits::low_ones;
 use config::config_refusal;
@@ -86,7 +86,7 @@ fn has_no_reference(c: Config, word: u64) -> bool
 // Whether the word is that of a window of kind 8 that holds a value of P: it was taken in s+min or later, so at most max - min cycles are left.
 fn has_reference(c: Config, word: u64) -> bool
     requires { (Good c) × (family c.kind ≡ stability) }
-    ensures { result ≡ with_areference c word }
+    ensures { result ≡ with_a_reference c word }
 {
     if word < REFERENCE_HELD {
         return false;

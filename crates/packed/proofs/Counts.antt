@@ -26,7 +26,7 @@ count-of-low none w h = omega arith
 
 pub count_low : (c : Config) (w refusal count : ℕ) → w < 2 ^ 64 → CountAnswer c w refusal count → count ≤ 64
 unfolding open_count
-count_low c w refusal count h a = rw a.count-is (by (eqb (word_refusal c w) 0) (eqb w stopped_word))
+count_low c w refusal count h a = rw a.count_is (by (eqb (word_refusal c w) 0) (eqb w stopped_word))
   where
     by : (b s : Bool) → cond b (cond s 0 (open_count_of (family c.kind) w)) 0 ≤ 64
     by true true = omega arith

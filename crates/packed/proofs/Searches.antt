@@ -30,7 +30,7 @@ module _ (checkers cycles : ℕ) (rows : List ℕ) where
   small k t a =
       let fits = fitting checkers cycles (length rows) (sym a.refusal_is) in
       let first = (a.done refl).first refl in
-      record { checker-low = omega (arith, fits.few, first.in-checkers); cycle-low = omega (arith, fits.short, first.in-cycles) }
+      record { checker-low = omega (arith, fits.few, first.in_checkers); cycle-low = omega (arith, fits.short, first.in_cycles) }
 
   pub found-packed : (k t : ℕ) → SearchAnswer checkers cycles rows 0 true k t → Unpacked (2147483648 + 65536 * k + t)
   found-packed k t a =

@@ -37,7 +37,7 @@ all-passed h l = omega arith
 module _ (c : Config) (trace : List ℕ) where
   pub passing-none : Good c → frames trace ≤ 65536 → Passing c trace 0 0
   unfolding word_before
-  passing-none good short = record { good = good; short = short; word-is = refl }
+  passing-none good short = record { good = good; short = short; word_is = refl }
 
   module _ (t : ℕ) (all : t ≡ frames trace) where
     entries-are : entries_from c (frame_at trace) 0 t ≡ failures_of c trace
@@ -48,4 +48,4 @@ module _ (c : Config) (trace : List ℕ) where
     counted-all short d = (d.is ∙ ap length entries-are, omega (arith, d.few))
 
     pub stored-all : {list list' : List ℕ} {at : ℕ} → Stored (entries_from c (frame_at trace) 0 t) list 0 list' at → list' ≡ sets list 0 (words_of (failures_of c trace))
-    stored-all {list} s = s.list-is ∙ ap (λ (es : List Entry). sets list 0 (words_of es)) entries-are
+    stored-all {list} s = s.list_is ∙ ap (λ (es : List Entry). sets list 0 (words_of es)) entries-are

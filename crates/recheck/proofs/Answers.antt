@@ -38,7 +38,7 @@ module _ (c : Config) (trace rows words : List ℕ) (a b : ℕ) where
   -- a recheck that is not refused may go on from the kept word before a: it is 0 or one of the words
   module _ (ok : Taken c trace rows words a b) where
     pub a-in-words : a ≤ length words
-    a-in-words = omega (arith, ok.low, ok.high, ok.lengths.words-length)
+    a-in-words = omega (arith, ok.low, ok.high, ok.lengths.words_length)
 
     before-possible : (k : ℕ) → k ≤ length words → T (possible c (kept_at words k))
     unfolding kept_at all_possible
@@ -49,29 +49,29 @@ module _ (c : Config) (trace rows words : List ℕ) (a b : ℕ) where
     resumable word kept = record {
       good = ok.lengths.good;
       short = accepted-short ok.lengths;
-      rows-length = ok.lengths.rows-length;
-      words-length = ok.lengths.words-length;
+      rows_length = ok.lengths.rows_length;
+      words_length = ok.lengths.words_length;
       low = ok.low;
       high = ok.high;
-      word-is = kept;
-      possible-word = rw kept (before-possible a a-in-words);
+      word_is = kept;
+      possible_word = rw kept (before-possible a a-in-words);
     }
 
   -- a true record has no impossible word
   not-lowest : Good c → (old : List ℕ) → TrueRecord c old rows words → {t : ℕ} → LowestImpossible c words t → ⊥
   unfolding all_possible
   not-lowest good old was {t} l =
-      of-false l.impossible (every-elim (length words) (λ s. possible c (get_or words s 0)) (true-possible c good old rows words was) t l.in-record)
+      of-false l.impossible (every-elim (length words) (λ s. possible c (get_or words s 0)) (true-possible c good old rows words was) t l.in_record)
 
   -- a refused recheck has altered nothing, and no old trace asks for more
   pub not_done : (r t e : ℕ) (changes : List ℤ) → Refused c trace rows words a b r t → (r ≡ 0 → ⊥) → e ≡ 0 → length changes ≡ marks
       → ((i : ℕ) → i < marks → get_or changes i (pos 0) ≡ pos 0) → RecheckAnswer c trace rows words a b rows words r t e changes
-  not_done r t e changes q h end all-marks zeros = record {
+  not_done r t e changes q h end all_marks zeros = record {
     tested = q;
-    all-marks = all-marks;
+    all_marks = all_marks;
     done = λ z. absurd (h z);
-    refused = λ _. record { rows-kept = refl; words-kept = refl; end_is = end; changes-are = zeros };
-    never-spoiled = λ good old was seven. not-lowest good old was (q.named.spoiled seven);
+    refused = λ _. record { rows_kept = refl; words_kept = refl; end_is = end; changes_are = zeros };
+    never_spoiled = λ good old was seven. not-lowest good old was (q.named.spoiled seven);
     demand = λ good fits low high old edited true-old. absurd (h (q.refusal_is ∙ demand-accepted c good trace rows words a b fits low high old edited true-old));
   }
 
@@ -80,29 +80,29 @@ module _ (c : Config) (trace rows words : List ℕ) (a b : ℕ) where
       → length changes ≡ marks → ((i : ℕ) → i < marks → get_or changes i (pos 0) ≡ sub_ℕ (get_or counts i 0) 65536)
       → Resumed c trace rows words a b rows' words' e counts → RecheckAnswer c trace rows words a b rows' words' 0 0 e changes
   unfolding change
-  all_done rows' words' e counts changes z low all-marks signed run = record {
+  all_done rows' words' e counts changes z low all_marks signed run = record {
     tested = z;
-    all-marks = all-marks;
+    all_marks = all_marks;
     done = λ _. rechecked;
     refused = λ h. absurd (h refl);
-    never-spoiled = λ good old was n. eqb-false 0 7 refl n;
+    never_spoiled = λ good old was n. eqb-false 0 7 refl n;
     demand = λ good fits low' high old edited true-old. demand-met c good trace rows words a b low' high old edited true-old rows' words' e changes rechecked;
   }
     where
       here : (i : ℕ) → i < marks → get_or changes i (pos 0) ≡ change rows' rows i a e
-      here i h = signed i h ∙ balanced (get_or counts i 0) (marks_in rows i a e) (marks_in rows' i a e) (run.counts-are i h)
+      here i h = signed i h ∙ balanced (get_or counts i 0) (marks_in rows i a e) (marks_in rows' i a e) (run.counts_are i h)
 
       rechecked : Rechecked c trace rows words a b rows' words' e changes
       rechecked = record {
         ends = run.ends;
         rows_are = run.rows_are;
         words_are = run.words_are;
-        changes-are = here;
-        changes-all = λ i h.
+        changes_are = here;
+        changes_all = λ i h.
             here i h ∙ changes-same _ a e (frames trace) i rows rows' (omega (arith, run.ends.low)) run.ends.high run.rows_are;
       }
 
   -- a change is at most 65,536 either way
   pub counts-high : (word : ℕ) → Resumable c trace rows words a b word → (rows' words' : List ℕ) (e : ℕ) (counts : List ℕ)
       → Resumed c trace rows words a b rows' words' e counts → (i : ℕ) → i < marks → get_or counts i 0 ≤ 131072
-  counts-high word ready rows' words' e counts run i h = omega (arith, run.counts-are i h, marks-le rows' i a e, run.ends.high, ready.short)
+  counts-high word ready rows' words' e counts run i h = omega (arith, run.counts_are i h, marks-le rows' i a e, run.ends.high, ready.short)

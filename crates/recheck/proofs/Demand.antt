@@ -36,7 +36,7 @@ use Rattle.halves.proofs.Counted.{marks-same, marks-split}
 
 rules-follow : (c : Config) → Good c → (tr : Trace) → Follows (step_word c) tr 0 (word_before c tr)
 unfolding word_before
-rules-follow c good tr t _ = (step-is-rules c good tr t).word-is
+rules-follow c good tr t _ = (step-is-rules c good tr t).word_is
 
 -- ---- changes
 
@@ -74,20 +74,20 @@ pub true-possible : (c : Config) → Good c → (trace rows words : List ℕ) �
 unfolding all_possible
 true-possible c good trace rows words was =
     every-intro (length words) (λ t. possible c (get_or words t 0))
-    (λ t h. rw (was.words_are t (omega (arith, was.words-length))) (words-possible c good (frame_at trace) t))
+    (λ t h. rw (was.words_are t (omega (arith, was.words_length))) (words-possible c good (frame_at trace) t))
 
 -- ---- demand 3
 
-same-frames : {old trace : List ℕ} {a b : ℕ} → Edited old trace a b → frames old ≡ frames trace
+same_frames : {old trace : List ℕ} {a b : ℕ} → Edited old trace a b → frames old ≡ frames trace
 unfolding frames
-same-frames edited = ap (λ (n : ℕ). n / frame_words) edited.same_length
+same_frames edited = ap (λ (n : ℕ). n / frame_words) edited.same_length
 
 -- the words kept are those before each cycle of the old trace
 kept-words : {c : Config} {old trace rows words : List ℕ} {a b : ℕ} → Edited old trace a b → TrueRecord c old rows words → (t : ℕ) → t ≤ frames trace
     → kept_at words t ≡ word_before c (frame_at old) t
 unfolding kept_at word_before
 kept-words edited was zero h = refl
-kept-words edited was (suc t) h = was.words_are t (omega (arith, same-frames edited))
+kept-words edited was (suc t) h = was.words_are t (omega (arith, same_frames edited))
 
 pub demand-accepted : (c : Config) → Good c → (trace rows words : List ℕ) (a b : ℕ) → T (trace_fits trace) → a ≤ b → b ≤ frames trace → (old : List ℕ)
     → Edited old trace a b → TrueRecord c old rows words → recheck_refusal c trace rows words a b ≡ 0
@@ -96,8 +96,8 @@ demand-accepted c good trace rows words a b fits low high old edited was =
     simp (
       eq-eqb (config_refusal c) 0 good,
       is_true (trace_fits trace) fits,
-      eq-eqb (length rows) (frames trace) (was.rows-length ∙ same-frames edited),
-      eq-eqb (length words) (frames trace) (was.words-length ∙ same-frames edited),
+      eq-eqb (length rows) (frames trace) (was.rows_length ∙ same_frames edited),
+      eq-eqb (length words) (frames trace) (was.words_length ∙ same_frames edited),
       le-leb a b low,
       le-leb b (frames trace) high,
       is_true (all_possible c words) (true-possible c good old rows words was),
@@ -125,23 +125,23 @@ module _
         → Demanded c old trace rows b rows' words' 0 e changes
     unfolding own_word own_row
     demand-met rows' words' e changes r = record {
-      not-refused = refl;
+      not_refused = refl;
       record_is =
           record {
-            rows-length = r.rows_are.same_length ∙ was.rows-length ∙ same-frames edited;
-            words-length = r.words_are.same_length ∙ was.words-length ∙ same-frames edited;
+            rows_length = r.rows_are.same_length ∙ was.rows_length ∙ same_frames edited;
+            words_length = r.words_are.same_length ∙ was.words_length ∙ same_frames edited;
             rows_are =
                 λ t h.
                 true-entries edit (step_row c) (own_row c trace words a) e rows rows' r.ends
-                (λ s l. was.rows_are s (omega (arith, same-frames edited)) ∙ (step-is-rules c good (frame_at old) s).row_is) (λ s _. refl) r.rows_are t h
+                (λ s l. was.rows_are s (omega (arith, same_frames edited)) ∙ (step-is-rules c good (frame_at old) s).row_is) (λ s _. refl) r.rows_are t h
                 ∙ sym (step-is-rules c good (frame_at trace) t).row_is;
             words_are =
                 λ t h.
                 true-entries edit (step_word c) (λ (s : ℕ). own_word c trace words a (suc s)) e words words' r.ends
-                (λ s l. was.words_are s (omega (arith, same-frames edited)) ∙ (step-is-rules c good (frame_at old) s).word-is)
+                (λ s l. was.words_are s (omega (arith, same_frames edited)) ∙ (step-is-rules c good (frame_at old) s).word_is)
                 (run-steps (step_word c) (frame_at trace) a (kept_at words a)) r.words_are t h
-                ∙ sym (step-is-rules c good (frame_at trace) t).word-is;
+                ∙ sym (step-is-rules c good (frame_at trace) t).word_is;
           };
       ends = true-ends edit e r.ends;
-      changes-are = r.changes-all;
+      changes_are = r.changes_all;
     }

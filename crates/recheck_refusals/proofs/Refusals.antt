@@ -63,9 +63,9 @@ module _ (c : Config) (trace rows words : List ℕ) (a b : ℕ) where
         rw (
           eq-eqb (config_refusal c) 0 ok.good,
           is_true (trace_fits trace) ok.fits,
-          eq-eqb (length rows) (frames trace) ok.rows-length,
-          eq-eqb (length words) (frames trace) ok.words-length,
-          ap (λ (n : ℕ). leb a b && leb b n) (sym ok.rows-length) ∙ f,
+          eq-eqb (length rows) (frames trace) ok.rows_length,
+          eq-eqb (length words) (frames trace) ok.words_length,
+          ap (λ (n : ℕ). leb a b && leb b n) (sym ok.rows_length) ∙ f,
           g,
         )
 
@@ -82,15 +82,15 @@ module _ (c : Config) (trace rows words : List ℕ) (a b : ℕ) where
             refusal_is = sym (range-decides true false range spoiled);
             named =
                 record {
-                  spoiled = λ _. record { in-record = h; impossible = first.impossible h; lower-possible = λ s l. first.lower-possible s zero-le l };
+                  spoiled = λ _. record { in_record = h; impossible = first.impossible h; lower_possible = λ s l. first.lower_possible s zero-le l };
                   otherwise = λ n. absurd (n refl);
                 };
           }
 
-      pub not-refused : length words ≤ t → Refused c trace rows words a b 0 0
+      pub not_refused : length words ≤ t → Refused c trace rows words a b 0 0
       unfolding all_possible
-      not-refused h =
-          let whole = every-intro (length words) (λ s. possible c (get_or words s 0)) (λ s l. first.lower-possible s zero-le (omega arith)) in
+      not_refused h =
+          let whole = every-intro (length words) (λ s. possible c (get_or words s 0)) (λ s l. first.lower_possible s zero-le (omega arith)) in
           record { refusal_is = sym (range-decides true true range (is_true (all_possible c words) whole)); named = named_none 0 zero-le }
 
   -- what is not refused with 1 to 6 is a record of the lengths that are due: a refusal of the full check would be the recheck's
@@ -125,7 +125,7 @@ taken c trace rows words a b z =
     by true true e f n g h = record {
       lengths = fits;
       low = leb→le a b (and_left (leb a b) (leb b (length rows)) (of-true e));
-      high = omega (arith, leb→le b (length rows) (and_right (leb a b) (leb b (length rows)) (of-true e)), fits.rows-length);
+      high = omega (arith, leb→le b (length rows) (and_right (leb a b) (leb b (length rows)) (of-true e)), fits.rows_length);
       all-possible = of-true f;
     }
     by true false e f n g h = absurd (omega arith)

@@ -18,9 +18,9 @@ recheck_refusal c trace rows words a b =
 
 -- "the lowest such cycle"
 pub record LowestImpossible (c : Config) (words : List ℕ) (cycle : ℕ) : Type 0 where
-  pub in-record : cycle < length words
+  pub in_record : cycle < length words
   pub impossible : possible c (get_or words cycle 0) ≡ false
-  pub lower-possible : (t : ℕ) → t < cycle → T (possible c (get_or words t 0))
+  pub lower_possible : (t : ℕ) → t < cycle → T (possible c (get_or words t 0))
 
 -- "and name the lowest such cycle. Otherwise that number is 0."
 pub record Named (c : Config) (words : List ℕ) (refusal cycle : ℕ) : Type 0 where

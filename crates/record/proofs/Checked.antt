@@ -26,11 +26,11 @@ module _ (c : Config) (trace rows words : List ℕ) (ok : Accepted c trace rows 
   pub runnable : Runnable c trace rows words (all (length rows))
   runnable = record {
     good = ok.good;
-    possible-word = zero-possible c ok.good;
+    possible_word = zero-possible c ok.good;
     low = zero-le;
-    rows-hold = le_refl (length rows);
-    words-hold = omega (arith, ok.rows-length, ok.words-length);
-    in-trace = omega (arith, ok.rows-length);
+    rows_hold = le_refl (length rows);
+    words_hold = omega (arith, ok.rows_length, ok.words_length);
+    in_trace = omega (arith, ok.rows_length);
     short = accepted-short ok;
   }
 
@@ -39,12 +39,12 @@ module _ (c : Config) (trace rows words : List ℕ) (ok : Accepted c trace rows 
   filled rows' words' r ran =
       let end : r.at ≡ length rows = ran-all ran refl in
       record {
-        rows-length = ran.come.rows_are.same_length ∙ ok.rows-length;
-        words-length = ran.come.words_are.same_length ∙ ok.words-length;
+        rows_length = ran.come.rows_are.same_length ∙ ok.rows_length;
+        words_length = ran.come.words_are.same_length ∙ ok.words_length;
         rows_are = λ t h.
-            ran.come.rows_are.within t zero-le (omega (arith, ok.rows-length))
+            ran.come.rows_are.within t zero-le (omega (arith, ok.rows_length))
             ∙ stretch-rows c ok.good trace (all (length rows)) refl t zero-le ∙ ap (row c (frame_at trace)) (zero-add t);
         words_are = λ t h.
-            ran.come.words_are.within t zero-le (omega (arith, ok.rows-length))
+            ran.come.words_are.within t zero-le (omega (arith, ok.rows_length))
             ∙ stretch-words c ok.good trace (all (length rows)) refl (suc t) zero-le ∙ ap (word_before c (frame_at trace)) (zero-add (suc t));
       }

@@ -7,8 +7,8 @@ use Rattle.lengths.specs.Lengths.{check_refusal}
 
 -- "A trace's true record under a configuration is the rows and words that the rules above give"
 pub record TrueRecord (c : Config) (trace rows words : List ℕ) : Type 0 where
-  pub rows-length : length rows ≡ frames trace
-  pub words-length : length words ≡ frames trace
+  pub rows_length : length rows ≡ frames trace
+  pub words_length : length words ≡ frames trace
   pub rows_are : (t : ℕ) → t < frames trace → get_or rows t 0 ≡ row c (frame_at trace) t
   pub words_are : (t : ℕ) → t < frames trace → get_or words t 0 ≡ word c (frame_at trace) t
 
@@ -16,5 +16,5 @@ pub record TrueRecord (c : Config) (trace rows words : List ℕ) : Type 0 where
 pub record CheckAnswer (c : Config) (trace rows words rows' words' : List ℕ) (refusal : ℕ) : Type 0 where
   pub refusal_is : refusal ≡ check_refusal c trace rows words
   pub done : refusal ≡ 0 → TrueRecord c trace rows' words'
-  pub rows-kept : (refusal ≡ 0 → ⊥) → rows' ≡ rows
-  pub words-kept : (refusal ≡ 0 → ⊥) → words' ≡ words
+  pub rows_kept : (refusal ≡ 0 → ⊥) → rows' ≡ rows
+  pub words_kept : (refusal ≡ 0 → ⊥) → words' ≡ words

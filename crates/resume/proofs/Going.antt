@@ -33,13 +33,13 @@ module _ (c : Config) (trace rows₀ words₀ : List ℕ) (a b : ℕ) where
   pub record Going (rows words : List ℕ) (t own kept : ℕ) (counts : List ℕ) : Type 0 where
     pub low : a ≤ t
     pub high : t ≤ frames trace
-    pub word-is : own ≡ own_word c trace words₀ a t
-    pub possible-word : T (possible c own)
-    pub kept-is : kept ≡ kept_at words₀ t
+    pub word_is : own ≡ own_word c trace words₀ a t
+    pub possible_word : T (possible c own)
+    pub kept_is : kept ≡ kept_at words₀ t
     pub rows_are : Written (own_row c trace words₀ a) a t rows₀ rows
     pub words_are : Written (λ k. own_word c trace words₀ a (suc k)) a t words₀ words
     pub going_on : (u : ℕ) → b ≤ u → u < t → own_word c trace words₀ a u ≡ kept_at words₀ u → ⊥
-    pub counts-are : (i : ℕ) → i < marks → get_or counts i 0 + marks_in rows₀ i a t ≡ 65536 + marks_in rows i a t
+    pub counts_are : (i : ℕ) → i < marks → get_or counts i 0 + marks_in rows₀ i a t ≡ 65536 + marks_in rows i a t
 
   module _ (word : ℕ) (r : Resumable c trace rows₀ words₀ a b word) where
     pub going-none : (counts : List ℕ) → ((i : ℕ) → i < marks → get_or counts i 0 ≡ 65536) → Going rows₀ words₀ a word word counts
@@ -47,13 +47,13 @@ module _ (c : Config) (trace rows₀ words₀ : List ℕ) (a b : ℕ) where
     going-none counts all = record {
       low = le_refl a;
       high = omega (arith, r.low, r.high);
-      word-is = r.word-is ∙ sym (run_enters (step_word c) (frame_at trace) a (kept_at words₀ a) a (le_refl a));
-      possible-word = r.possible-word;
-      kept-is = r.word-is;
+      word_is = r.word_is ∙ sym (run_enters (step_word c) (frame_at trace) a (kept_at words₀ a) a (le_refl a));
+      possible_word = r.possible_word;
+      kept_is = r.word_is;
       rows_are = written_none (own_row c trace words₀ a) a rows₀;
       words_are = written_none (λ k. own_word c trace words₀ a (suc k)) a words₀;
       going_on = λ u l h. absurd (omega (arith, r.low));
-      counts-are = λ i h. omega (arith, all i h, marks-none rows₀ i a);
+      counts_are = λ i h. omega (arith, all i h, marks-none rows₀ i a);
     }
 
     module _
@@ -67,11 +67,11 @@ module _ (c : Config) (trace rows₀ words₀ : List ℕ) (a b : ℕ) where
         pub runnable : Runnable c trace rows words block
         runnable = record {
           good = r.good;
-          possible-word = g.possible-word;
+          possible_word = g.possible_word;
           low = omega arith;
-          rows-hold = omega (arith, g.rows_are.same_length, r.rows-length);
-          words-hold = omega (arith, g.words_are.same_length, r.words-length);
-          in-trace = omega arith;
+          rows_hold = omega (arith, g.rows_are.same_length, r.rows_length);
+          words_hold = omega (arith, g.words_are.same_length, r.words_length);
+          in_trace = omega arith;
           short = r.short;
         }
 
@@ -82,7 +82,7 @@ module _ (c : Config) (trace rows₀ words₀ : List ℕ) (a b : ℕ) where
             same-words (step_word c) (λ j. frame_at trace (0 + j)) (frame_at trace) (word_at (step_word c) (λ j. frame_at trace (0 + j)) t own)
             (word_at (step_word c) (frame_at trace) a (kept_at words₀ a)) t k (run-steps (step_word c) (λ j. frame_at trace (0 + j)) t own)
             (λ j l. run-steps (step_word c) (frame_at trace) a (kept_at words₀ a) j (omega (arith, g.low))) (λ j _ _. ap (frame_at trace) (zero-add j))
-            (run_enters (step_word c) (λ j. frame_at trace (0 + j)) t own t (le_refl t) ∙ g.word-is) k h (le_refl k)
+            (run_enters (step_word c) (λ j. frame_at trace (0 + j)) t own t (le_refl t) ∙ g.word_is) k h (le_refl k)
 
         same_row : (k : ℕ) → t ≤ k → stretch_row c trace block k ≡ own_row c trace words₀ a k
         unfolding stretch_row own_row
@@ -91,9 +91,9 @@ module _ (c : Config) (trace rows₀ words₀ : List ℕ) (a b : ℕ) where
         -- what the block keeps is what the record kept
         same_kept : (k : ℕ) → t ≤ k → kept_from words t kept k ≡ kept_at words₀ k
         unfolding kept_at
-        same_kept zero h = let e : t ≡ 0 = omega arith in kept-enters words t kept 0 (omega arith) ∙ g.kept-is ∙ ap (kept_at words₀) e
+        same_kept zero h = let e : t ≡ 0 = omega arith in kept-enters words t kept 0 (omega arith) ∙ g.kept_is ∙ ap (kept_at words₀) e
         same_kept (suc k) h =
-            ⊎_elim (λ (e : t ≡ suc k). kept-enters words t kept (suc k) (omega arith) ∙ g.kept-is ∙ ap (kept_at words₀) e)
+            ⊎_elim (λ (e : t ≡ suc k). kept-enters words t kept (suc k) (omega arith) ∙ g.kept_is ∙ ap (kept_at words₀) e)
             (λ (l : t < suc k). kept-steps words t kept k (le_of_suc-le-suc l) ∙ g.words_are.beyond k (le_of_suc-le-suc l)) (eq-or-lt_of_le h)
 
         module _ (rows' words' : List ℕ) (q : Reached) (ran : Ran c trace rows words block rows' words' q) where
@@ -105,8 +105,8 @@ module _ (c : Config) (trace rows₀ words₀ : List ℕ) (a b : ℕ) where
               stuck e =
                   let s = ran.stopped (omega arith) in
                   differs (leb-true b t s.0)
-                  (g.word-is ∙ sym (same_word t (le_refl t)) ∙ ap (stretch_word c trace block) e ∙ sym ran.come.word-is ∙ s.1 ∙ ran.come.kept-is
-                  ∙ sym (ap (kept_from words t kept) e) ∙ same_kept t (le_refl t) ∙ sym g.kept-is)
+                  (g.word_is ∙ sym (same_word t (le_refl t)) ∙ ap (stretch_word c trace block) e ∙ sym ran.come.word_is ∙ s.1 ∙ ran.come.kept_is
+                  ∙ sym (ap (kept_from words t kept) e) ∙ same_kept t (le_refl t) ∙ sym g.kept_is)
 
           -- a block that reaches a cycle from b on started there
           stopping : (u : ℕ) → b ≤ u → u < q.at → leb b t ≡ true
@@ -136,19 +136,19 @@ module _ (c : Config) (trace rows₀ words₀ : List ℕ) (a b : ℕ) where
           -- the counts stay between 0 and 131,072
           pub moved-low : (i : ℕ) → i < marks → marks_in rows i t to ≤ get_or counts i 0 + marks_in rows' i t to
           moved-low i h =
-              omega (arith, g.counts-are i h, old-marks i, new-marks i, first_marks i, marks-le rows₀ i a q.at, ran.come.high, r.short, within)
+              omega (arith, g.counts_are i h, old-marks i, new-marks i, first_marks i, marks-le rows₀ i a q.at, ran.come.high, r.short, within)
 
           pub moved-high : (i : ℕ) → i < marks → get_or counts i 0 + marks_in rows' i t to ≤ 262144
-          moved-high i h = omega (arith, g.counts-are i h, marks-le rows i a t, marks-le rows' i t to, g.high, r.short, within)
+          moved-high i h = omega (arith, g.counts_are i h, marks-le rows i a t, marks-le rows' i t to, g.high, r.short, within)
 
           pub going_more : (counts' : List ℕ) → ((i : ℕ) → i < marks → get_or counts' i 0 + marks_in rows i t to ≡ get_or counts i 0 + marks_in rows' i t to)
               → Going rows' words' q.at q.word q.kept counts'
           going_more counts' moved = record {
             low = omega (arith, g.low, ran.come.low);
             high = omega (arith, ran.come.high);
-            word-is = ran.come.word-is ∙ same_word q.at ran.come.low;
-            possible-word = ran.come.possible-word;
-            kept-is = ran.come.kept-is ∙ same_kept q.at ran.come.low;
+            word_is = ran.come.word_is ∙ same_word q.at ran.come.low;
+            possible_word = ran.come.possible_word;
+            kept_is = ran.come.kept_is ∙ same_kept q.at ran.come.low;
             rows_are = written_on a t q.at rows₀ rows rows' g.low ran.come.low same_row g.rows_are ran.come.rows_are;
             words_are =
                 written_on a t q.at words₀ words words' g.low ran.come.low (λ k h. same_word (suc k) (omega arith)) g.words_are
@@ -158,15 +158,15 @@ module _ (c : Config) (trace rows₀ words₀ : List ℕ) (a b : ℕ) where
                 (λ (p : ltb u t ≡ false).
                 let k = ltb-false u t p in ran.come.going_on (stopping u l h) u k h (same_word u k ∙ e ∙ sym (same_kept u k)))
                 (either (ltb u t));
-            counts-are = λ i h. omega (arith, g.counts-are i h, moved i h, old-marks i, new-marks i, kept-marks i, first_marks i);
+            counts_are = λ i h. omega (arith, g.counts_are i h, moved i h, old-marks i, new-marks i, kept-marks i, first_marks i);
           }
 
     -- the end, at or after b, where the words are the same or the trace ends
     pub going_done : (rows words : List ℕ) (t own kept : ℕ) (counts : List ℕ) → Going rows words t own kept counts → b ≤ t
         → (t < frames trace → own ≡ kept) → Resumed c trace rows₀ words₀ a b rows words t counts
     going_done rows words t own kept counts g low same = record {
-      ends = record { low = low; high = g.high; stops = λ l. sym g.word-is ∙ same l ∙ g.kept-is; least = g.going_on };
+      ends = record { low = low; high = g.high; stops = λ l. sym g.word_is ∙ same l ∙ g.kept_is; least = g.going_on };
       rows_are = g.rows_are;
       words_are = g.words_are;
-      counts-are = g.counts-are;
+      counts_are = g.counts_are;
     }

@@ -22,16 +22,16 @@ module _ (c : Config) (trace words : List ℕ) (a : ℕ) where
 pub record Resumable (c : Config) (trace rows words : List ℕ) (a b word : ℕ) : Type 0 where
   pub good : Good c
   pub short : frames trace ≤ 65536
-  pub rows-length : length rows ≡ frames trace
-  pub words-length : length words ≡ frames trace
+  pub rows_length : length rows ≡ frames trace
+  pub words_length : length words ≡ frames trace
   pub low : a ≤ b
   pub high : b ≤ frames trace
-  pub word-is : word ≡ kept_at words a
-  pub possible-word : T (possible c word)
+  pub word_is : word ≡ kept_at words a
+  pub possible_word : T (possible c word)
 
 -- What the run leaves: e and the entries from a to e−1, and 65,536 more than the change of each mark there.
 pub record Resumed (c : Config) (trace rows words : List ℕ) (a b : ℕ) (rows' words' : List ℕ) (e : ℕ) (counts : List ℕ) : Type 0 where
   pub ends : Ends (own_word c trace words a) (kept_at words) b (frames trace) e
   pub rows_are : Written (own_row c trace words a) a e rows rows'
   pub words_are : Written (λ t. own_word c trace words a (suc t)) a e words words'
-  pub counts-are : (i : ℕ) → i < marks → get_or counts i 0 + marks_in rows i a e ≡ 65536 + marks_in rows' i a e
+  pub counts_are : (i : ℕ) → i < marks → get_or counts i 0 + marks_in rows i a e ≡ 65536 + marks_in rows' i a e

@@ -25,14 +25,14 @@ use Rattle.rules.proofs.Going.{going-row, going-word, going-possible, going-left
 
 pub steps-stopped : (c : Config) (f : Frame) → fatal c ≡ true → Steps c stopped_word f 0 stopped_word
 unfolding step_row step_word
-steps-stopped c f e = record { row_is = rw e refl; word-is = rw e refl }
+steps-stopped c f e = record { row_is = rw e refl; word_is = rw e refl }
 
 pub steps-going : (c : Config) (w : ℕ) (f : Frame) → w < stopped_word
     → Steps c w f (going_step_row c w f) (cond (fatal c && failing (going_step_row c w f)) stopped_word (going_step_word c w f))
 unfolding step_row step_word
 steps-going c w f l =
     let e : eqb w stopped_word ≡ false = ne_eqb w stopped_word (λ q. omega arith) in
-    record { row_is = rw (e, and-false) refl; word-is = rw e refl }
+    record { row_is = rw (e, and-false) refl; word_is = rw e refl }
 
 -- ---- the word before a cycle
 

@@ -21,7 +21,7 @@ use Rattle.rules.specs.Config.Family.{sequence, time, transition, value, stabili
 use Rattle.rules.specs.Frame.{Trace, Proper, up}
 use Rattle.rules.specs.Rules.{row_of, marks_of, open_of, going_row, going_word, going_word_before, failing, stopped_word}
 use Rattle.rules.specs.Step.{left_in, holds, reference_in, step_marks_of, step_open_of, going_step_row, going_step_word}
-use Rattle.rules.specs.Possible.{without_reference, with_areference, possible_of, going_possible, can_fail, LeftPassing}
+use Rattle.rules.specs.Possible.{without_reference, with_a_reference, possible_of, going_possible, can_fail, LeftPassing}
 use Rattle.rules.proofs.Good.{sequence-config, time-config, transition-widths, value-config, stability-config, not_none, p-within, q-within, r-within, value_low, possible-are, family-stability, stability-kind}
 use Rattle.rules.proofs.Frames.{FailsNext}
 use Rattle.rules.proofs.SequenceRules.{sequence-open, sequence-marks}
@@ -114,18 +114,18 @@ module _ (c : Config) (w : ℕ) (fits : 2 ^ width c.p ≤ 2 ^ 32) where
       (or_cases (eqb w 0) (leb (2 ^ 32) w && ltb (w - 2 ^ 32) (2 ^ width c.p)) h)
 
   compared-low : c.n < 2 ^ 16 → T (possible_of stability c w) → w < stopped_word
-  unfolding possible_of without_reference with_areference
+  unfolding possible_of without_reference with_a_reference
   compared-low n h =
       ⊎_elim
       (λ (o : T (eqb w 0 || without_reference c w)).
       ⊎_elim (λ (z : T (eqb w 0)). omega (arith, eqb→eq w 0 z))
       (λ (o' : T (without_reference c w)). omega (arith, n, leb→le w c.n o'))
       (or_cases (eqb w 0) (without_reference c w) o))
-      (λ (o : T (with_areference c w)).
+      (λ (o : T (with_a_reference c w)).
       let inside = holds w && (ltb 0 (left_in w) && leb (left_in w) (c.n - c.min)) in
       let below = ltb→lt (reference_in w) (2 ^ width c.p) (and_right inside (ltb (reference_in w) (2 ^ width c.p)) o) in
       omega (arith, fits, below))
-      (or_cases (eqb w 0 || without_reference c w) (with_areference c w) h)
+      (or_cases (eqb w 0 || without_reference c w) (with_a_reference c w) h)
 
 pub going-low : (c : Config) → Good c → (w : ℕ) → T (going_possible c w) → w < stopped_word
 unfolding possible_of

@@ -36,8 +36,8 @@ same-before : (c : Config) → Good c → (tr tr' : Trace) (t : ℕ) → ((s : �
 unfolding word_before
 same-before c good tr tr' zero h = refl
 same-before c good tr tr' (suc t) h =
-    (step-is-rules c good tr t).word-is ∙ ap₂ (step_word c) (same-before c good tr tr' t (λ s l. h s (le_step l))) (h t (le_refl (suc t)))
-    ∙ sym (step-is-rules c good tr' t).word-is
+    (step-is-rules c good tr t).word_is ∙ ap₂ (step_word c) (same-before c good tr tr' t (λ s l. h s (le_step l))) (h t (le_refl (suc t)))
+    ∙ sym (step-is-rules c good tr' t).word_is
 
 pub step-possible : (c : Config) → Good c → (w : ℕ) (f : Frame) → T (possible c w) → T (possible c (step_word c w f))
 unfolding word_before
@@ -46,7 +46,7 @@ step-possible c good w f h =
     let n : ℕ = suc l.cycle in
     let tr : Trace = followed l.trace n f in
     let left : word c tr l.cycle ≡ w = same-before c good tr l.trace n (followed-before l.trace n f) ∙ l.leaves in
-    let leaves : word c tr n ≡ step_word c w f = (step_after c good w tr l.cycle left).word-is ∙ rw (followed-at l.trace n f) in
+    let leaves : word c tr n ≡ step_word c w f = (step_after c good w tr l.cycle left).word_is ∙ rw (followed-at l.trace n f) in
     rw leaves at (words-possible c good tr n)
 
 -- a step of a checker that goes on does not leave 2^63
@@ -54,4 +54,4 @@ pub step-open : (c : Config) → c.severity ≡ 0 → Good c → (w : ℕ) → T
     → next ≡ stopped_word → ⊥
 step-open c on good w h f row next s e =
     let left = goes-possible c on (step_word c w f) (step-possible c good w f h) in
-    omega (arith, going-low c good (step_word c w f) left, s.word-is, e)
+    omega (arith, going-low c good (step_word c w f) left, s.word_is, e)

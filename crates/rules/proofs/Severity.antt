@@ -18,7 +18,7 @@ use Rattle.rules.specs.Time.{test_missed, test_unknown}
 use Rattle.rules.specs.Transition.{in_start_state}
 use Rattle.rules.specs.Rules.{row_of, failing, stopped_word}
 use Rattle.rules.specs.Step.{starts_attempt, attempt, attempt_on, start, pends, restart, left, triggered, opens, after, tests, compares, tracked_marks, held, step_marks_of, step_open_of, going_step_row, going_step_word, step_row, step_word, Steps}
-use Rattle.rules.specs.Possible.{without_reference, with_areference, possible_of, going_possible, can_fail, possible}
+use Rattle.rules.specs.Possible.{without_reference, with_a_reference, possible_of, going_possible, can_fail, possible}
 use Rattle.rules.proofs.Good.{three, numbers, refusal_is}
 use Rattle.rules.proofs.Going.{going-low}
 
@@ -39,7 +39,7 @@ module _ (c : Config) (on : c.severity ≡ 0) (w : ℕ) where
 
   pub goes-steps : (f : Frame) (row next : ℕ) → row ≡ going_step_row c w f → next ≡ going_step_word c w f → Steps c w f row next
   unfolding step_row step_word
-  goes-steps f row next p q = record { row_is = rw not-fatal p; word-is = rw not-fatal q }
+  goes-steps f row next p q = record { row_is = rw not-fatal p; word_is = rw not-fatal q }
 
 -- ---- 2^63
 
@@ -77,7 +77,7 @@ module _ (x : ℕ) (c : Config) where
       (rw (is_true (n_fits c && min_fits c) (numbers c good)) (le-leb x 1 l)) (with-ports ∙ is_true (ports c) t.2)
 
   with-possible : (w : ℕ) → going_possible (with_severity x c) w ≡ going_possible c w
-  unfolding going_possible possible_of without_reference with_areference
+  unfolding going_possible possible_of without_reference with_a_reference
   with-possible w = by (family c.kind)
     where
       by : (k : Family) → possible_of k (with_severity x c) w ≡ possible_of k c w
@@ -136,10 +136,10 @@ module _ (c : Config) (on : c.severity ≡ 0) where
     steps-fatal f row next s =
         let none : eqb c.severity 1 ≡ false = ap (λ (y : ℕ). eqb y 1) on in
         let row_is : row ≡ going_step_row c w f = rw none at s.row_is in
-        let next-is : next ≡ going_step_word c w f = rw none at s.word-is in
+        let next_is : next ≡ going_step_word c w f = rw none at s.word_is in
         record {
           row_is = rw (ne_eqb w stopped_word other, with_row 1 c w f) row_is;
-          word-is = rw (ne_eqb w stopped_word other, with_row 1 c w f, with-word 1 c w f, ← row_is) (ap (λ (y : ℕ). cond (failing row) stopped_word y) next-is);
+          word_is = rw (ne_eqb w stopped_word other, with_row 1 c w f, with-word 1 c w f, ← row_is) (ap (λ (y : ℕ). cond (failing row) stopped_word y) next_is);
         }
 
 -- ---- a fatal checker c, and g, the same made to go on

@@ -25,7 +25,7 @@ use Rattle.rules.specs.Window.{between, at_first}
 use Rattle.rules.specs.Trigger.{with_reference, trigger_seen, trigger_pending, in_window, tested, compared, trigger_checks, has_reference, reference, stability_checks}
 use Rattle.rules.specs.Rules.{Marks, marks_of, going_word, going_word_before, failing, going_row}
 use Rattle.rules.specs.Step.{left_in, holds, reference_in, pends, triggered, opens, after, tests, compares, tracked_marks, step_marks_of, going_step_row}
-use Rattle.rules.specs.Possible.{without_reference, with_areference, possible_of, going_possible, LeftPassing}
+use Rattle.rules.specs.Possible.{without_reference, with_a_reference, possible_of, going_possible, LeftPassing}
 use Rattle.rules.proofs.Frames.{frame_of, frame_with, frame-proper, with-proper, known-value, zero_left, FailsNext}
 use Rattle.rules.proofs.Good.{possible-are}
 use Rattle.rules.proofs.Rows.{row-passes, step-fails, step-passes}
@@ -56,8 +56,8 @@ first-same (suc k) f g v h l = by (some k f) (f k) (first-same k f g v h) l
 
 -- ---- the words that traces leave
 
-with-reference : (c : Config) (l r : ℕ) → l < 2 ^ 16 → 0 < l → l ≤ c.n - c.min → r < 2 ^ width c.p → T (with_areference c (l + with_reference r))
-unfolding with_areference
+with-reference : (c : Config) (l r : ℕ) → l < 2 ^ 16 → 0 < l → l ≤ c.n - c.min → r < 2 ^ width c.p → T (with_a_reference c (l + with_reference r))
+unfolding with_a_reference
 with-reference c l r h z m f =
     rw (holds-with l r, left-with l r h, reference-with l r h)
     (and_intro (ltb 0 l && leb l (c.n - c.min)) (ltb r (2 ^ width c.p))
@@ -98,14 +98,14 @@ module _ (c : Config) (tr : Trace) (k : family c.kind ≡ stability) (high : c.n
       let g = live-range (trigger_checks c tr wrong) tr c.n (windowed c tr wrong) (suc t) s p in
       let m = taken t s (of-true h) in
       rw w
-      (or_right (eqb (l + with_reference r) 0 || without_reference c (l + with_reference r)) (with_areference c (l + with_reference r))
+      (or_right (eqb (l + with_reference r) 0 || without_reference c (l + with_reference r)) (with_a_reference c (l + with_reference r))
       (with-reference c l r (omega arith) (omega arith) (omega arith) (reference-below s (suc t))))
   word-possible t s p false h =
       let l = stable-before c tr k high (suc t) in
       let w : going_word c tr t ≡ l + 0 = word-pending c tr k high (suc t) s p ∙ rw h refl in
       let z : going_word c tr t ≡ l = omega (arith, w) in
       rw z
-      (or_left (eqb l 0 || without_reference c l) (with_areference c l)
+      (or_left (eqb l 0 || without_reference c l) (with_a_reference c l)
       (or_right (eqb l 0) (without_reference c l) (le→leb l c.n (low (trigger_checks c tr wrong) tr c.n (windowed c tr wrong) (suc t)))))
 
   pub stability-possible : (t : ℕ) → T (possible_of stability c (going_word c tr t))
@@ -127,14 +127,14 @@ pub record WordParts (c : Config) (w : ℕ) : Type 0 where
   pub compared-low : 2 ^ 48 ≤ w → left_in w ≤ c.n - c.min
 
 pub word-parts : (c : Config) (w : ℕ) → family c.kind ≡ stability → c.n ≤ max_window → T (going_possible c w) → WordParts c w
-unfolding possible_of without_reference with_areference
+unfolding possible_of without_reference with_a_reference
 word-parts c w k high h =
     ⊎_elim
     (λ (o : T (eqb w 0 || without_reference c w)).
     ⊎_elim (λ (e : T (eqb w 0)). small (omega (arith, eqb→eq w 0 e)))
     (λ (b : T (without_reference c w)). small (leb→le w c.n b))
     (or_cases (eqb w 0) (without_reference c w) o))
-    (λ (o : T (with_areference c w)).
+    (λ (o : T (with_a_reference c w)).
     let l = left_in w in
     let inside = ltb 0 l && leb l (c.n - c.min) in
     let fits = ltb (reference_in w) (2 ^ width c.p) in
@@ -143,7 +143,7 @@ word-parts c w k high h =
     let some = and_left (ltb 0 l) (leb l (c.n - c.min)) (and_right (holds w) inside both) in
     let low = leb→le l (c.n - c.min) (and_right (ltb 0 l) (leb l (c.n - c.min)) (and_right (holds w) inside both)) in
     record { some_left = λ _. ltb→lt 0 l some; left-low = omega arith; plain-low = λ h. absurd (omega arith); compared-low = λ _. low })
-    (or_cases (eqb w 0 || without_reference c w) (with_areference c w) (subst T (sym (possible-are c w stability k)) h))
+    (or_cases (eqb w 0 || without_reference c w) (with_a_reference c w) (subst T (sym (possible-are c w stability k)) h))
   where
     small : w ≤ c.n → WordParts c w
     small l = record { some_left = λ z. omega arith; left-low = omega arith; plain-low = λ _. l; compared-low = λ h. absurd (omega arith) }
@@ -372,14 +372,14 @@ module _ (c : Config) (g : T (within c.q)) (v : width c.q ≡ 1) (high : c.n ≤
         held = first-same (suc (c.n - l)) (compared c tr₁ 0) (λ u. P c (tr₁ u)) r (same c r f fits) taken
 
     pub stability-left : (w : ℕ) → T (possible_of stability c w) → LeftPassing c w
-    unfolding possible_of without_reference with_areference
+    unfolding possible_of without_reference with_a_reference
     stability-left w h =
         ⊎_elim
         (λ (o : T (eqb w 0 || without_reference c w)).
         ⊎_elim (λ (e : T (eqb w 0)). subst⁻¹ (LeftPassing c) (eqb→eq w 0 e) (zero_left c))
         (λ (b : T (without_reference c w)). or-zero c w (without-left w (leb→le w c.n b)))
         (or_cases (eqb w 0) (without_reference c w) o))
-        (λ (o : T (with_areference c w)).
+        (λ (o : T (with_a_reference c w)).
         let l = left_in w in
         let inside = ltb 0 l && leb l (c.n - c.min) in
         let fits = ltb (reference_in w) (2 ^ width c.p) in
@@ -389,7 +389,7 @@ module _ (c : Config) (g : T (within c.q)) (v : width c.q ≡ 1) (high : c.n ≤
         subst (LeftPassing c) whole
         (with-left l (reference_in w) (ltb→lt 0 l (and_left (ltb 0 l) (leb l (c.n - c.min)) i)) (leb→le l (c.n - c.min) (and_right (ltb 0 l) (leb l (c.n - c.min)) i))
         (ltb→lt (reference_in w) (2 ^ width c.p) (and_right (holds w && inside) fits o))))
-        (or_cases (eqb w 0 || without_reference c w) (with_areference c w) h)
+        (or_cases (eqb w 0 || without_reference c w) (with_a_reference c w) h)
 
     -- the reference is 0, and the tracked value 1 in s+max
     pub stability-fails : c.min < c.n → FailsNext c

@@ -14,8 +14,8 @@ use Rattle.rules.specs.Step.{left_in, holds, reference_in}
 unfoldable pub without_reference : Config → ℕ → Bool
 without_reference c w = leb w c.n
 
-unfoldable pub with_areference : Config → ℕ → Bool
-with_areference c w = holds w && (ltb 0 (left_in w) && leb (left_in w) (c.n - c.min)) && ltb (reference_in w) (2 ^ width c.p)
+unfoldable pub with_a_reference : Config → ℕ → Bool
+with_a_reference c w = holds w && (ltb 0 (left_in w) && leb (left_in w) (c.n - c.min)) && ltb (reference_in w) (2 ^ width c.p)
 
 -- "A word is possible when: kinds 0 and 1, below 2^(n−1); kind 2, also at most one bit set; kinds 3 to 5, at most n; kind 6, 0 or 2^32 plus a value
 -- that fits the width." Of kinds 7 and 8 "a word is possible exactly when some trace leaves it": `words-possible` and `possible-left` of
@@ -25,7 +25,7 @@ possible_of sequence c w = ltb w (2 ^ (c.n - 1)) && (not (eqb c.kind 2) || leb (
 possible_of time c w = leb w c.n
 possible_of transition c w = eqb w 0 || (leb (2 ^ 32) w && ltb (w - 2 ^ 32) (2 ^ width c.p))
 possible_of value c w = leb w c.n
-possible_of stability c w = eqb w 0 || without_reference c w || with_areference c w
+possible_of stability c w = eqb w 0 || without_reference c w || with_a_reference c w
 possible_of none c w = false
 
 -- of a checker that goes on

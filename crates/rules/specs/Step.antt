@@ -126,9 +126,9 @@ module _ (c : Config) (w : ℕ) (f : Frame) where
 -- the row and the next word of a step out of reset, for the family's rules
 pub record StepsTo (k : Family) (c : Config) (w : ℕ) (f : Frame) (row next : ℕ) : Type 0 where
   pub row_is : row ≡ row_of (step_marks_of c w f k)
-  pub word-is : next ≡ step_open_of c w f k
+  pub word_is : next ≡ step_open_of c w f k
 
 -- the row and the next word of any step
 pub record Steps (c : Config) (w : ℕ) (f : Frame) (row next : ℕ) : Type 0 where
   pub row_is : row ≡ step_row c w f
-  pub word-is : next ≡ step_word c w f
+  pub word_is : next ≡ step_word c w f

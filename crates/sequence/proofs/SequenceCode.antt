@@ -172,4 +172,4 @@ module _ (c : Config) (w : ℕ) (f : Frame) (e : ℕ) (two : 2 ≤ c.n) (event :
           ap (λ (x : ℕ). bit x (c.n - 2)) word ∙ bit-number (c.n - 1) (attempt c w f) (c.n - 2) (omega arith) in
           let opens : cond (eqb c.kind 0) (bit next (c.n - 2)) b ≡ cond (eqb c.kind 0) (attempt c w f (c.n - 2)) (starts_attempt c w f) =
           ap₂ (cond (eqb c.kind 0)) oldest (s ∙ start_is) in
-          record { row_is = r ∙ rw (fails-is, opens, doubts-is) refl; word-is = word }
+          record { row_is = r ∙ rw (fails-is, opens, doubts-is) refl; word_is = word }

@@ -10,4 +10,4 @@ use Rattle.sequence.specs.declared.step.Events.{Events}
 pub record Sees (c : Config) (f : Frame) (e : Events) : Type 0 where
   pub up_is : e.up ≡ up f
   pub seen_are : (i : ℕ) → i < c.n → bit e.seen i ≡ bit (P c f) (c.n - 1 - i)
-  pub unknown-are : (i : ℕ) → i < c.n → bit e.unknown i ≡ bit (unknown_p c f) (c.n - 1 - i)
+  pub unknown_are : (i : ℕ) → i < c.n → bit e.unknown i ≡ bit (unknown_p c f) (c.n - 1 - i)

@@ -12,7 +12,7 @@ use Rattle.rules.specs.Rules.{marks}
 -- A walk over the entries has passed those below i: each is as `Done` says, and the others are as they were.
 pub record Walked (Done : ℕ → ℕ → Type 0) (old new : List ℕ) (i : ℕ) : Type 0 where
   pub low : i ≤ marks
-  pub all-marks : length new ≡ marks
+  pub all_marks : length new ≡ marks
   pub done : (k : ℕ) → k < i → Done k (get_or new k 0)
   pub rest : (k : ℕ) → i ≤ k → get_or new k 0 ≡ get_or old k 0
 
@@ -22,7 +22,7 @@ walked_more {Done} {old} {new} {i} {v} w l d =
     let h : i < length new = omega arith in
     record {
       low = omega arith;
-      all-marks = length-set new i v ∙ w.all-marks;
+      all_marks = length-set new i v ∙ w.all_marks;
       done =
           below_more (λ (k : ℕ). Done k (get_or (set new i v) k 0)) i
           (λ k b. subst⁻¹ (Done k) (get_or-set_other new i k v 0 (omega arith)) (w.done k b))

@@ -18,7 +18,7 @@ use Rattle.trace.proofs.Runs.{run_enters, run-steps, Follows, same-words}
 -- the words of the rules are a run, from any cycle on
 pub rules-follow : (c : Config) → Good c → (tr : Trace) (from : ℕ) → Follows (step_word c) (λ j. tr (from + j)) 0 (λ k. word_before c tr (from + k))
 unfolding word_before
-rules-follow c good tr from k _ = ap (word_before c tr) (add-suc from k) ∙ (step-is-rules c good tr (from + k)).word-is
+rules-follow c good tr from k _ = ap (word_before c tr) (add-suc from k) ∙ (step-is-rules c good tr (from + k)).word_is
 
 module _ (c : Config) (good : Good c) (trace : List ℕ) (s : Stretch) (enters : s.word ≡ word_before c (frame_at trace) (s.from + s.at)) where
   pub stretch-words : (k : ℕ) → s.at ≤ k → stretch_word c trace s k ≡ word_before c (frame_at trace) (s.from + k)

@@ -30,11 +30,11 @@ module _ {c : Config} {trace rows₀ words₀ rows words : List ℕ} {s : Stretc
   pub rest-runnable : Runnable c trace rows₀ words₀ s → Runnable c trace rows words (rest_from s r)
   rest-runnable m = record {
     good = m.good;
-    possible-word = come.possible-word;
+    possible_word = come.possible_word;
     low = come.high;
-    rows-hold = omega (arith, m.rows-hold, come.rows_are.same_length);
-    words-hold = omega (arith, m.words-hold, come.words_are.same_length);
-    in-trace = m.in-trace;
+    rows_hold = omega (arith, m.rows_hold, come.rows_are.same_length);
+    words_hold = omega (arith, m.words_hold, come.words_are.same_length);
+    in_trace = m.in_trace;
     short = m.short;
   }
 
@@ -44,7 +44,7 @@ module _ {c : Config} {trace rows₀ words₀ rows words : List ℕ} {s : Stretc
       let frame : ℕ → Frame = λ j. frame_at trace (s.from + j) in
       same-words (step_word c) frame frame (word_at (step_word c) frame r.at r.word) (word_at (step_word c) frame s.at s.word) r.at k
       (run-steps (step_word c) frame r.at r.word) (λ j l. run-steps (step_word c) frame s.at s.word j (le_trans come.low l)) (λ j _ _. refl)
-      (run_enters (step_word c) frame r.at r.word r.at (le_refl r.at) ∙ come.word-is) k h (le_refl k)
+      (run_enters (step_word c) frame r.at r.word r.at (le_refl r.at) ∙ come.word_is) k h (le_refl k)
 
   row_on : (k : ℕ) → r.at ≤ k → stretch_row c trace (rest_from s r) k ≡ stretch_row c trace s k
   unfolding stretch_row
@@ -54,7 +54,7 @@ module _ {c : Config} {trace rows₀ words₀ rows words : List ℕ} {s : Stretc
   kept_on k h = ⊎_elim here (later k) (eq-or-lt_of_le h)
     where
       here : r.at ≡ k → kept_from words r.at r.kept k ≡ kept_from words₀ s.at s.kept k
-      here e = rw (← e) (kept-enters words r.at r.kept r.at (le_refl r.at) ∙ come.kept-is)
+      here e = rw (← e) (kept-enters words r.at r.kept r.at (le_refl r.at) ∙ come.kept_is)
 
       later : (j : ℕ) → r.at < j → kept_from words r.at r.kept j ≡ kept_from words₀ s.at s.kept j
       later zero l = absurd (omega arith)
@@ -67,9 +67,9 @@ module _ {c : Config} {trace rows₀ words₀ rows words : List ℕ} {s : Stretc
     come = record {
       low = le_trans come.low ran.come.low;
       high = ran.come.high;
-      word-is = ran.come.word-is ∙ word_on r'.at ran.come.low;
-      possible-word = ran.come.possible-word;
-      kept-is = ran.come.kept-is ∙ kept_on r'.at ran.come.low;
+      word_is = ran.come.word_is ∙ word_on r'.at ran.come.low;
+      possible_word = ran.come.possible_word;
+      kept_is = ran.come.kept_is ∙ kept_on r'.at ran.come.low;
       rows_are = written_on s.at r.at r'.at rows₀ rows rows' come.low ran.come.low row_on come.rows_are ran.come.rows_are;
       words_are =
           written_on s.at r.at r'.at words₀ words words' come.low ran.come.low (λ k h. word_on (suc k) (omega arith)) come.words_are

@@ -48,9 +48,9 @@ module _ (c : Config) (trace rows₀ words₀ : List ℕ) (s : Stretch) (r : Run
   running_none = record {
     low = le_refl s.at;
     high = r.low;
-    word-is = sym (run_enters (step_word c) frame s.at s.word s.at (le_refl s.at));
-    possible-word = r.possible-word;
-    kept-is = sym (kept-enters words₀ s.at s.kept s.at (le_refl s.at));
+    word_is = sym (run_enters (step_word c) frame s.at s.word s.at (le_refl s.at));
+    possible_word = r.possible_word;
+    kept_is = sym (kept-enters words₀ s.at s.kept s.at (le_refl s.at));
     rows_are = written_none (stretch_row c trace s) s.at rows₀;
     words_are = written_none (λ k. stretch_word c trace s (suc k)) s.at words₀;
     going_on = λ u k low h. absurd (omega arith);
@@ -58,8 +58,8 @@ module _ (c : Config) (trace rows₀ words₀ : List ℕ) (s : Stretch) (r : Run
 
   module _ (rows words : List ℕ) (k word kept : ℕ) (run : Running c trace rows₀ words₀ s rows words (reached k word kept)) (here : k < s.to) where
     -- the cycle is one of the trace
-    pub in-trace : s.from + k < frames trace
-    in-trace = omega (arith, r.in-trace)
+    pub in_trace : s.from + k < frames trace
+    in_trace = omega (arith, r.in_trace)
 
     pub running_more : (s.stops ≡ true → word ≡ kept → ⊥) → (row next : ℕ) → Steps c word (frame k) row next
         → Running c trace rows₀ words₀ s (set rows k row) (set words k next) (reached (suc k) next (get_or words k 0))
@@ -67,23 +67,23 @@ module _ (c : Config) (trace rows₀ words₀ : List ℕ) (s : Stretch) (r : Run
     running_more differs row next step = record {
       low = le_step run.low;
       high = here;
-      word-is = next-is;
-      possible-word = subst⁻¹ (λ (x : ℕ). T (possible c x)) step.word-is (step-possible c r.good word (frame k) run.possible-word);
-      kept-is = run.words_are.beyond k (le_refl k) ∙ sym (kept-steps words₀ s.at s.kept k run.low);
+      word_is = next_is;
+      possible_word = subst⁻¹ (λ (x : ℕ). T (possible c x)) step.word_is (step-possible c r.good word (frame k) run.possible_word);
+      kept_is = run.words_are.beyond k (le_refl k) ∙ sym (kept-steps words₀ s.at s.kept k run.low);
       rows_are =
-          written-more (stretch_row c trace s) s.at k rows₀ rows row run.low (omega (arith, r.rows-hold))
-          (step.row_is ∙ ap (λ (x : ℕ). step_row c x (frame k)) run.word-is) run.rows_are;
+          written-more (stretch_row c trace s) s.at k rows₀ rows row run.low (omega (arith, r.rows_hold))
+          (step.row_is ∙ ap (λ (x : ℕ). step_row c x (frame k)) run.word_is) run.rows_are;
       words_are =
-          written-more (λ j. stretch_word c trace s (suc j)) s.at k words₀ words next run.low (omega (arith, r.words-hold)) next-is run.words_are;
+          written-more (λ j. stretch_word c trace s (suc j)) s.at k words₀ words next run.low (omega (arith, r.words_hold)) next_is run.words_are;
       going_on = λ on u low b. ⊎_elim (here-differs on u) (run.going_on on u low) (eq-or-lt_of_le (le_of_suc-le-suc b));
     }
       where
-        next-is : next ≡ stretch_word c trace s (suc k)
-        next-is =
-            step.word-is ∙ ap (λ (x : ℕ). step_word c x (frame k)) run.word-is ∙ sym (run-steps (step_word c) frame s.at s.word k run.low)
+        next_is : next ≡ stretch_word c trace s (suc k)
+        next_is =
+            step.word_is ∙ ap (λ (x : ℕ). step_word c x (frame k)) run.word_is ∙ sym (run-steps (step_word c) frame s.at s.word k run.low)
 
         here-differs : s.stops ≡ true → (u : ℕ) → u ≡ k → stretch_word c trace s u ≡ kept_from words₀ s.at s.kept u → ⊥
-        here-differs on u e q = differs on (run.word-is ∙ (rw e at q) ∙ sym run.kept-is)
+        here-differs on u e q = differs on (run.word_is ∙ (rw e at q) ∙ sym run.kept_is)
 
 -- ---- a stretch of which it is known whether it stops
 
@@ -94,11 +94,11 @@ pub settled-runnable : {c : Config} {trace rows words : List ℕ} {s : Stretch} 
     → Runnable c trace rows words (settled s b)
 settled-runnable b r = record {
   good = r.good;
-  possible-word = r.possible-word;
+  possible_word = r.possible_word;
   low = r.low;
-  rows-hold = r.rows-hold;
-  words-hold = r.words-hold;
-  in-trace = r.in-trace;
+  rows_hold = r.rows_hold;
+  words_hold = r.words_hold;
+  in_trace = r.in_trace;
   short = r.short;
 }
 
@@ -120,7 +120,7 @@ module _ (c : Config) (trace rows₀ words₀ : List ℕ) (s : Stretch) (r : Run
   filling-more rows words k word run here row next step =
       let more =
       running_more c trace rows₀ words₀ s r rows words k word (kept_from words₀ s.at s.kept k) run here (λ on _. of-false off (of-true on)) row next step in
-      subst (λ (x : ℕ). Running c trace rows₀ words₀ s (set rows k row) (set words k next) (reached (suc k) next x)) more.kept-is more
+      subst (λ (x : ℕ). Running c trace rows₀ words₀ s (set rows k row) (set words k next) (reached (suc k) next x)) more.kept_is more
 
   pub filled : (rows words : List ℕ) (word kept : ℕ) → Filling rows words s.to word → kept ≡ kept_from words₀ s.at s.kept s.to
       → Ran c trace rows₀ words₀ s rows words (reached s.to word kept)

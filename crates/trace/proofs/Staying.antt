@@ -33,7 +33,7 @@ module _ (start to : ℕ) (stops : Bool) (before : ℕ) (rows₀ words₀ : List
   staying-none low = record {
     low = le_refl start;
     high = low;
-    kept-is = sym (kept-enters words₀ start before start (le_refl start));
+    kept_is = sym (kept-enters words₀ start before start (le_refl start));
     rows_are = written_none (λ k. 0) start rows₀;
     words_are = written_none (λ k. stopped_word) start words₀;
     going_on = λ on k l h. absurd (omega arith);
@@ -42,10 +42,10 @@ module _ (start to : ℕ) (stops : Bool) (before : ℕ) (rows₀ words₀ : List
   pub staying-more : (rows words : List ℕ) (k kept : ℕ) → Staying start to stops before rows₀ words₀ rows words k kept → k < to → to ≤ length rows₀
       → to ≤ length words₀ → (stops ≡ true → kept ≡ stopped_word → ⊥)
       → Staying start to stops before rows₀ words₀ (set rows k 0) (set words k stopped_word) (suc k) (get_or words k 0)
-  staying-more rows words k kept run here rows-hold words-hold differs = record {
+  staying-more rows words k kept run here rows_hold words_hold differs = record {
     low = le_step run.low;
     high = here;
-    kept-is = run.words_are.beyond k (le_refl k) ∙ sym (kept-steps words₀ start before k run.low);
+    kept_is = run.words_are.beyond k (le_refl k) ∙ sym (kept-steps words₀ start before k run.low);
     rows_are = written-more (λ j. 0) start k rows₀ rows 0 run.low (omega arith) refl run.rows_are;
     words_are = written-more (λ j. stopped_word) start k words₀ words stopped_word run.low (omega arith) refl run.words_are;
     going_on = λ on u low b. ⊎_elim (here-differs on u) (run.going_on on u low) (eq-or-lt_of_le (le_of_suc-le-suc b));
@@ -53,7 +53,7 @@ module _ (start to : ℕ) (stops : Bool) (before : ℕ) (rows₀ words₀ : List
     where
       here-differs : stops ≡ true → (u : ℕ) → u ≡ k → stopped_word ≡ kept_from words₀ start before u → ⊥
       here-differs on u e q =
-          differs on (run.kept-is ∙ sym (rw e at q))
+          differs on (run.kept_is ∙ sym (rw e at q))
 
 -- one that does not stop writes all entries
 pub stayed-all : (s : Stretch) {rows words rows' words' : List ℕ} {kept : ℕ} → s.stops ≡ false → s.at ≤ s.to → kept ≡ kept_from words s.at s.kept s.to
@@ -63,12 +63,12 @@ stayed-all s off low is cleared stored = record {
   come = record {
     low = low;
     high = le_refl s.to;
-    kept-is = is;
+    kept_is = is;
     rows_are = cleared;
     words_are = stored;
     going_on = λ on. absurd (of-false off (of-true on));
   };
-  word-is = refl;
+  word_is = refl;
   ended = λ b. absurd (omega arith);
 }
 
@@ -82,7 +82,7 @@ module _ (c : Config) (e : fatal c ≡ true) (trace : List ℕ) (s : Stretch) (s
     where
       by : (b : Bool) → cond b s.word (step_word c stopped_word (frame_at trace (s.from + k))) ≡ stopped_word
       by true = stops
-      by false = sym (steps-stopped c (frame_at trace (s.from + k)) e).word-is
+      by false = sym (steps-stopped c (frame_at trace (s.from + k)) e).word_is
 
   row_stays : (k : ℕ) → stretch_row c trace s k ≡ 0
   unfolding stretch_row
@@ -97,12 +97,12 @@ module _ (c : Config) (e : fatal c ≡ true) (trace : List ℕ) (s : Stretch) (s
     come = record {
       low = h.come.low;
       high = h.come.high;
-      word-is = h.word-is ∙ sym (word-stays r.at);
-      possible-word = subst⁻¹ (λ (w : ℕ). T (possible c w)) (h.word-is ∙ sym stops) m.possible-word;
-      kept-is = h.come.kept-is;
+      word_is = h.word_is ∙ sym (word-stays r.at);
+      possible_word = subst⁻¹ (λ (w : ℕ). T (possible c w)) (h.word_is ∙ sym stops) m.possible_word;
+      kept_is = h.come.kept_is;
       rows_are = written_as (stretch_row c trace s) 0 row_stays h.come.rows_are;
       words_are = written_as (λ k. stretch_word c trace s (suc k)) stopped_word (λ k. word-stays (suc k)) h.come.words_are;
       going_on = λ on k low l q. h.come.going_on on k low l (sym (word-stays k) ∙ q);
     };
-    stopped = λ l. let q = h.ended l in (q.0, h.word-is ∙ sym q.1);
+    stopped = λ l. let q = h.ended l in (q.0, h.word_is ∙ sym q.1);
   }

@@ -35,7 +35,7 @@ module _
     (k word kept : ℕ) (run : Running (fatally c) trace rows₀ words₀ s rows words (reached k word kept)) (other : word ≡ stopped_word → ⊥) where
   -- the step may be taken
   pub watch-ready : Good c × T (possible c word)
-  watch-ready = (going-good c on r.good, open-possible c on word other run.possible-word)
+  watch-ready = (going-good c on r.good, open-possible c on word other run.possible_word)
 
   module _ (here : k < s.to) (differs : s.stops ≡ true → word ≡ kept → ⊥) (row next : ℕ) (step : Steps c word (frame_at trace (s.from + k)) row next) where
     stepped : (next' : ℕ) → next' ≡ cond (failing row) stopped_word next
@@ -77,4 +77,4 @@ module _
       × (next ≡ stopped_word → ⊥)
   fill-goes-on e =
       let more = watch-goes-on c on trace rows₀ words₀ s r rows words k word kept run other here never row next step e in
-      (subst (λ (x : ℕ). Running (fatally c) trace rows₀ words₀ s (set rows k row) (set words k next) (reached (suc k) next x)) more.0.kept-is more.0, more.1)
+      (subst (λ (x : ℕ). Running (fatally c) trace rows₀ words₀ s (set rows k row) (set words k next) (reached (suc k) next x)) more.0.kept_is more.0, more.1)

@@ -28,11 +28,11 @@ module _ (c : Config) (trace : List ℕ) (s : Stretch) where
 -- what a run may go by
 pub record Runnable (c : Config) (trace rows words : List ℕ) (s : Stretch) : Type 0 where
   pub good : Good c
-  pub possible-word : T (possible c s.word)
+  pub possible_word : T (possible c s.word)
   pub low : s.at ≤ s.to
-  pub rows-hold : s.to ≤ length rows
-  pub words-hold : s.to ≤ length words
-  pub in-trace : s.from + s.to ≤ frames trace
+  pub rows_hold : s.to ≤ length rows
+  pub words_hold : s.to ≤ length words
+  pub in_trace : s.from + s.to ≤ frames trace
   pub short : frames trace ≤ 65536
 
 -- The run has come to an entry: it has stored the rows and words of the entries before it and no others, holds its own word and the kept one before it, and
@@ -40,9 +40,9 @@ pub record Runnable (c : Config) (trace rows words : List ℕ) (s : Stretch) : T
 pub record Running (c : Config) (trace rows words : List ℕ) (s : Stretch) (rows' words' : List ℕ) (r : Reached) : Type 0 where
   pub low : s.at ≤ r.at
   pub high : r.at ≤ s.to
-  pub word-is : r.word ≡ stretch_word c trace s r.at
-  pub possible-word : T (possible c r.word)
-  pub kept-is : r.kept ≡ kept_from words s.at s.kept r.at
+  pub word_is : r.word ≡ stretch_word c trace s r.at
+  pub possible_word : T (possible c r.word)
+  pub kept_is : r.kept ≡ kept_from words s.at s.kept r.at
   pub rows_are : Written (stretch_row c trace s) s.at r.at rows rows'
   pub words_are : Written (λ k. stretch_word c trace s (suc k)) s.at r.at words words'
   pub going_on : s.stops ≡ true → (k : ℕ) → s.at ≤ k → k < r.at → stretch_word c trace s k ≡ kept_from words s.at s.kept k → ⊥
@@ -61,7 +61,7 @@ pub record Watched (c : Config) (trace rows words : List ℕ) (s : Stretch) (row
 pub record Staying (start to : ℕ) (stops : Bool) (before : ℕ) (rows words rows' words' : List ℕ) (at kept : ℕ) : Type 0 where
   pub low : start ≤ at
   pub high : at ≤ to
-  pub kept-is : kept ≡ kept_from words start before at
+  pub kept_is : kept ≡ kept_from words start before at
   pub rows_are : Written (λ k. 0) start at rows rows'
   pub words_are : Written (λ k. stopped_word) start at words words'
   pub going_on : stops ≡ true → (k : ℕ) → start ≤ k → k < at → stopped_word ≡ kept_from words start before k → ⊥
@@ -69,5 +69,5 @@ pub record Staying (start to : ℕ) (stops : Bool) (before : ℕ) (rows words ro
 -- It is over: at the end of the stretch, or at the first entry where it had to stop.
 pub record Stayed (s : Stretch) (rows words rows' words' : List ℕ) (r : Reached) : Type 0 where
   pub come : Staying s.at s.to s.stops s.kept rows words rows' words' r.at r.kept
-  pub word-is : r.word ≡ stopped_word
+  pub word_is : r.word ≡ stopped_word
   pub ended : r.at < s.to → (s.stops ≡ true) × (r.kept ≡ stopped_word)

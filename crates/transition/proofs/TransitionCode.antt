@@ -63,7 +63,7 @@ module _ (c : Config) (w : ℕ) (f : Frame) where
 
     starts_is : starts ≡ in_start_state c f
     unfolding in_start_state
-    starts_is = rw (tells.test_known, tells.start-known) (by (known_p c f) (known_q c f) holds.test-is holds.start_is)
+    starts_is = rw (tells.test_known, tells.start_known) (by (known_p c f) (known_q c f) holds.test_is holds.start_is)
       where
         by : (a b : Bool) → (a ≡ true → v.test ≡ P c f) → (b ≡ true → v.start_state ≡ Q c f)
             → (a && b && eqb v.test v.start_state) ≡ (a && b && eqb (P c f) (Q c f))
@@ -72,7 +72,7 @@ module _ (c : Config) (w : ℕ) (f : Frame) where
         by false b p q = refl
 
     failure-is : (not (eqb w 0) && (k.test && not (eqb (v.test + 2 ^ 32) w))) ≡ (ltb 0 w && (known_p c f && not (eqb (P c f) (w - 2 ^ 32))))
-    failure-is = stored-part fam h k.test v.test ∙ rw tells.test_known (by (known_p c f) holds.test-is)
+    failure-is = stored-part fam h k.test v.test ∙ rw tells.test_known (by (known_p c f) holds.test_is)
       where
         by : (a : Bool) → (a ≡ true → v.test ≡ P c f) → (ltb 0 w && (a && not (eqb v.test (w - 2 ^ 32)))) ≡ (ltb 0 w && (a && not (eqb (P c f) (w - 2 ^ 32))))
         by true p = rw (p refl) refl
@@ -86,7 +86,7 @@ module _ (c : Config) (w : ℕ) (f : Frame) where
 
     pub transition-next : (b : Bool) → (starts && k.next_state) ≡ b → cond b (2 ^ 32 + v.next_state) 0 ≡ step_open_of c w f transition
     unfolding step_open_of
-    transition-next b e = rw (← e, starts_is, tells.next_known) (by (in_start_state c f) (known_r c f) holds.next-is)
+    transition-next b e = rw (← e, starts_is, tells.next_known) (by (in_start_state c f) (known_r c f) holds.next_is)
       where
         by : (a b : Bool) → (b ≡ true → v.next_state ≡ R c f) → cond (a && b) (2 ^ 32 + v.next_state) 0 ≡ cond (a && b) (2 ^ 32 + R c f) 0
         by true true p = rw (p refl) refl
@@ -100,6 +100,6 @@ all_tell c f k e tells =
     let two = and_left (k.test && k.start_state) k.next_state (of-true e) in
     record {
       test_known = sym (is_true k.test (and_left k.test k.start_state two)) ∙ tells.test_known;
-      start-known = sym (is_true k.start_state (and_right k.test k.start_state two)) ∙ tells.start-known;
+      start_known = sym (is_true k.start_state (and_right k.test k.start_state two)) ∙ tells.start_known;
       next_known = sym (is_true k.next_state (and_right (k.test && k.start_state) k.next_state (of-true e))) ∙ tells.next_known;
     }

@@ -70,7 +70,7 @@ module _ (c : Config) (w : ℕ) (f : Frame) where
         → row ≡ row_of (window_marks (enabled f && leb left (c.n - c.min) && known_p c f && not (eqb (P c f) c.value)) opened (eqb left 0) (enabled f && leb left (c.n - c.min) && not (known_p c f)))
         → StepsTo value c w f row left
     unfolding step_marks_of step_open_of
-    value-steps l row r = record { row_is = r ∙ ap row_of (marks-are w l (not (eqb (P c f) c.value))); word-is = sym l }
+    value-steps l row r = record { row_is = r ∙ ap row_of (marks-are w l (not (eqb (P c f) c.value))); word_is = sym l }
 
     -- kind 8: a window without a reference, and one that has it
     module _ (l : after c w f (left_in w) ≡ left) where
@@ -81,7 +81,7 @@ module _ (c : Config) (w : ℕ) (f : Frame) where
           let tested = enabled f && leb left (c.n - c.min) in
           record {
             row_is = r ∙ ap row_of (rw h (ap (λ (b : Bool). window_marks b opened (eqb left 0) (tested && not (known_p c f))) (sym (and-false (tested && known_p c f))) ∙ marks-are (left_in w) l false));
-            word-is = n ∙ rw (h, l, tests-is (left_in w) l) refl;
+            word_is = n ∙ rw (h, l, tests-is (left_in w) l) refl;
           }
 
       pub compared-steps : holds w ≡ true → leb left (c.n - c.min) ≡ true → (row next : ℕ)
@@ -92,7 +92,7 @@ module _ (c : Config) (w : ℕ) (f : Frame) where
           let wrong = not (eqb (P c f) (reference_in w)) in
           record {
             row_is = r ∙ ap row_of (rw h (rw (m, and-true (enabled f)) at (marks-are (left_in w) l wrong)));
-            word-is = n ∙ rw (h, l) refl;
+            word_is = n ∙ rw (h, l) refl;
           }
 
   -- ---- nothing is open
@@ -109,11 +109,11 @@ module _ (c : Config) (w : ℕ) (f : Frame) where
     module _ (none : (enabled f && eqb (Q c f) 1) ≡ false) where
       pub idle-value : StepsTo value c w f 0 0
       unfolding step_marks_of step_open_of tracked_marks compares tests after row_of
-      idle-value = record { row_is = simp (opens-only, trigger-only, none, and-false); word-is = rw (trigger-only, none, z) refl }
+      idle-value = record { row_is = simp (opens-only, trigger-only, none, and-false); word_is = rw (trigger-only, none, z) refl }
 
       idle-stability : StepsTo stability c w f 0 0
       unfolding step_marks_of step_open_of tracked_marks compares tests after row_of
-      idle-stability = record { row_is = simp (opens-only, trigger-only, none, and-false); word-is = rw (trigger-only, none, z) refl }
+      idle-stability = record { row_is = simp (opens-only, trigger-only, none, and-false); word_is = rw (trigger-only, none, z) refl }
 
     -- a trigger opens a window
     module _ (seen : (enabled f && eqb (Q c f) 1) ≡ true) where
@@ -130,13 +130,13 @@ module _ (c : Config) (w : ℕ) (f : Frame) where
   -- ---- whether a trigger is seen decides where nothing is open
 
   module _ (seen : Bool) (is : seen ≡ (enabled f && eqb (Q c f) 1)) where
-    trigger-is : triggered c w f ≡ (seen && eqb w 0)
+    trigger_is : triggered c w f ≡ (seen && eqb w 0)
     unfolding triggered pends
-    trigger-is = rw (is, zero_test w) refl
+    trigger_is = rw (is, zero_test w) refl
 
     opens-is : opens c w f ≡ (not (eqb w 0) || (seen && eqb w 0))
     unfolding opens pends
-    opens-is = rw (trigger-is, zero_test w) (ap (λ (b : Bool). b || (seen && not (ltb 0 w))) (sym (not-not (ltb 0 w))))
+    opens-is = rw (trigger_is, zero_test w) (ap (λ (b : Bool). b || (seen && not (ltb 0 w))) (sym (not-not (ltb 0 w))))
 
     seen-is : opens c w f ≡ (not (eqb w 0) || seen)
     seen-is = opens-is ∙ by (eqb w 0) seen

@@ -69,17 +69,17 @@ same-trace l l' fits same frame_is = ext_get_or 0 l l' same entry
 same-record : {c : Config} {trace rows words rows' words' : List ℕ} → TrueRecord c trace rows words → TrueRecord c trace rows' words'
     → (rows ≡ rows') × (words ≡ words')
 same-record {rows = rows} {words = words} {rows' = rows'} {words' = words'} r s = (
-  ext_get_or 0 rows rows' (r.rows-length ∙ sym s.rows-length)
-      (λ t h. let l = rw r.rows-length at h in r.rows_are t l ∙ sym (s.rows_are t l)),
-  ext_get_or 0 words words' (r.words-length ∙ sym s.words-length)
-      (λ t h. let l = rw r.words-length at h in r.words_are t l ∙ sym (s.words_are t l)),
+  ext_get_or 0 rows rows' (r.rows_length ∙ sym s.rows_length)
+      (λ t h. let l = rw r.rows_length at h in r.rows_are t l ∙ sym (s.rows_are t l)),
+  ext_get_or 0 words words' (r.words_length ∙ sym s.words_length)
+      (λ t h. let l = rw r.words_length at h in r.words_are t l ∙ sym (s.words_are t l)),
 )
 
 -- ---- one edit and its recheck
 
-same-frames : (l l' : List ℕ) → length l ≡ length l' → frames l ≡ frames l'
+same_frames : (l l' : List ℕ) → length l ≡ length l' → frames l ≡ frames l'
 unfolding frames
-same-frames l l' e = ap (λ (n : ℕ). n / frame_words) e
+same_frames l l' e = ap (λ (n : ℕ). n / frame_words) e
 
 -- the frames f with the samples in cycles a to b−1
 abbrev put : ℕ → ℕ → Trace → Trace → Trace
@@ -90,7 +90,7 @@ module _ {config : Config} {a b : ℕ} {samples : Trace} {before after : Held} {
   frames-after t h = by (leb a t) (ltb t b) refl refl
     where
       by : (u v : Bool) → leb a t ≡ u → ltb t b ≡ v → frame_at after.trace t ≡ cond (u && v) (samples t) (frame_at before.trace t)
-      by true true p q = edit.samples-are t (leb-true a t p) (ltb-true t b q)
+      by true true p q = edit.samples_are t (leb-true a t p) (ltb-true t b q)
       by true false p q = sym (edit.edited.behind t (ltb-false t b q) h)
       by false v p q = sym (edit.edited.before t (leb-false a t p))
 
@@ -101,7 +101,7 @@ module _ {config : Config} {a b : ℕ} {samples : Trace} {before after : Held} {
 
     demanded : Demanded config before.trace after.trace before.rows b after.rows after.words result.refusal result.end result.changes
     demanded =
-        edit.rechecked.demand ok.good fits_after edit.low (omega (arith, edit.high, same-frames before.trace after.trace edit.edited.same_length)) before.trace edit.edited
+        edit.rechecked.demand ok.good fits_after edit.low (omega (arith, edit.high, same_frames before.trace after.trace edit.edited.same_length)) before.trace edit.edited
         ok.record_is
 
     checked-after : Checked config after
@@ -113,26 +113,26 @@ module _ {config : Config} {a b : ℕ} {samples : Trace} {before after : Held} {
 record Twice (config : Config) (f : Trace) (old new : Held) (first second : RecheckResult) : Type 0 where
   checked : Checked config new
   accepted : (first.refusal ≡ 0) × (second.refusal ≡ 0)
-  changes-are : (i : ℕ) → i < marks → change_of_both first second i ≡ change new.rows old.rows i 0 (frames old.trace)
+  changes_are : (i : ℕ) → i < marks → change_of_both first second i ≡ change new.rows old.rows i 0 (frames old.trace)
   same_length : length new.trace ≡ length old.trace
-  frames-are : (t : ℕ) → t < frames new.trace → frame_at new.trace t ≡ f t
+  frames_are : (t : ℕ) → t < frames new.trace → frame_at new.trace t ≡ f t
 
 twice : {config : Config} {a b c d : ℕ} {samples others : Trace} {old mid new : Held} {r s : RecheckResult} → Checked config old
     → Edit config a b samples old mid r → Edit config c d others mid new s → Twice config (put c d others (put a b samples (frame_at old.trace))) old new r s
 twice {c = c} {d = d} {others = others} {old = old} {mid = mid} {new = new} ok first second =
     let met = demanded first ok in
     let met' = demanded second (checked-after first ok) in
-    let cycles = same-frames old.trace mid.trace first.edited.same_length in
-    let cycles' = same-frames mid.trace new.trace second.edited.same_length in
+    let cycles = same_frames old.trace mid.trace first.edited.same_length in
+    let cycles' = same_frames mid.trace new.trace second.edited.same_length in
     record {
       checked = checked-after second (checked-after first ok);
-      accepted = (met.not-refused, met'.not-refused);
-      changes-are =
+      accepted = (met.not_refused, met'.not_refused);
+      changes_are =
           λ i h.
-          ap₂ (λ (x y : ℤ). x +ℤ y) (met.changes-are i h) (met'.changes-are i h)
+          ap₂ (λ (x y : ℤ). x +ℤ y) (met.changes_are i h) (met'.changes_are i h)
           ∙ rw (← cycles', ← cycles) (changes-add i (frames old.trace) old.rows mid.rows new.rows);
       same_length = sym (first.edited.same_length ∙ second.edited.same_length);
-      frames-are =
+      frames_are =
           λ t h.
           frames-after second t h ∙ ap (λ (f : Frame). cond (leb c t && ltb t d) (others t) f) (frames-after first t (omega (arith, cycles')));
     }
@@ -149,16 +149,16 @@ put_back a b t samples f = by (leb a t && ltb t b)
 
 pub takes_back : TakesBack
 takes_back config a b samples old edited back first second h =
-    let both = twice h.from-true h.edit h.restores in
+    let both = twice h.from_true h.edit h.restores in
     let same : back.trace ≡ old.trace =
-    same-trace back.trace old.trace both.checked.fits both.same_length (λ t l. both.frames-are t l ∙ put_back a b t samples (frame_at old.trace)) in
-    let settled = same-record (rw same at both.checked.record_is) h.from-true.record_is in
+    same-trace back.trace old.trace both.checked.fits both.same_length (λ t l. both.frames_are t l ∙ put_back a b t samples (frame_at old.trace)) in
+    let settled = same-record (rw same at both.checked.record_is) h.from_true.record_is in
     record {
-      edit-accepted = both.accepted.0;
-      back-accepted = both.accepted.1;
-      rows-are-old = settled.0;
-      words-are-old = settled.1;
-      changes-cancel = λ i l. both.changes-are i l ∙ rw settled.0 (no_change i (frames old.trace) old.rows);
+      edit_accepted = both.accepted.0;
+      back_accepted = both.accepted.1;
+      rows_are_old = settled.0;
+      words_are_old = settled.1;
+      changes_cancel = λ i l. both.changes_are i l ∙ rw settled.0 (no_change i (frames old.trace) old.rows);
     }
 
 -- samples put in cycles that do not meet
@@ -174,18 +174,18 @@ put-apart a b c d t samples others f apart = by (leb a t) (ltb t b) (leb c t) (l
 
 pub either_order : EitherOrder
 either_order config a b c d samples others old one both other swapped first second first' second' h =
-    let x = twice h.from-true h.one-first h.other-second in
-    let y = twice h.from-true h.other-first h.one-second in
-    let length-is = x.same_length ∙ sym y.same_length in
+    let x = twice h.from_true h.one_first h.other_second in
+    let y = twice h.from_true h.other_first h.one_second in
+    let length_is = x.same_length ∙ sym y.same_length in
     let same : both.trace ≡ swapped.trace =
-    same-trace both.trace swapped.trace x.checked.fits length-is
+    same-trace both.trace swapped.trace x.checked.fits length_is
     (λ t l.
-    x.frames-are t l ∙ put-apart a b c d t samples others (frame_at old.trace) h.apart ∙ sym (y.frames-are t (omega (arith, same-frames both.trace swapped.trace length-is)))) in
+    x.frames_are t l ∙ put-apart a b c d t samples others (frame_at old.trace) h.apart ∙ sym (y.frames_are t (omega (arith, same_frames both.trace swapped.trace length_is)))) in
     let settled = same-record (rw same at x.checked.record_is) y.checked.record_is in
     record {
       accepted = x.accepted;
-      accepted-swapped = y.accepted;
+      accepted_swapped = y.accepted;
       rows_same = settled.0;
       words_same = settled.1;
-      sums_same = λ i l. x.changes-are i l ∙ rw settled.0 (sym (y.changes-are i l));
+      sums_same = λ i l. x.changes_are i l ∙ rw settled.0 (sym (y.changes_are i l));
     }

@@ -33,7 +33,7 @@ pub record Edit (config : Config) (a b : ℕ) (samples : Trace) (before after : 
   pub low : a ≤ b
   pub high : b ≤ frames before.trace
   pub edited : Edited before.trace after.trace a b
-  pub samples-are : (t : ℕ) → a ≤ t → t < b → frame_at after.trace t ≡ samples t
+  pub samples_are : (t : ℕ) → a ≤ t → t < b → frame_at after.trace t ≡ samples t
   pub rechecked : Rechecks config a b before after result
 
 -- what two rechecks add to the count of mark i
@@ -44,17 +44,17 @@ change_of_both first second i = get_or first.changes i (pos 0) +ℤ get_or secon
 
 -- "from a true record, an edit and then one that restores the old samples in the same a to b"
 pub record ThereAndBack (config : Config) (a b : ℕ) (samples : Trace) (old edited back : Held) (first second : RecheckResult) : Type 0 where
-  pub from-true : Checked config old
+  pub from_true : Checked config old
   pub edit : Edit config a b samples old edited first
   pub restores : Edit config a b (frame_at old.trace) edited back second
 
 -- "leave the old rows and words, and their changes add to 0 for each mark"; neither recheck is refused
 pub record TakenBack (old back : Held) (first second : RecheckResult) : Type 0 where
-  pub edit-accepted : first.refusal ≡ 0
-  pub back-accepted : second.refusal ≡ 0
-  pub rows-are-old : back.rows ≡ old.rows
-  pub words-are-old : back.words ≡ old.words
-  pub changes-cancel : (i : ℕ) → i < marks → change_of_both first second i ≡ pos 0
+  pub edit_accepted : first.refusal ≡ 0
+  pub back_accepted : second.refusal ≡ 0
+  pub rows_are_old : back.rows ≡ old.rows
+  pub words_are_old : back.words ≡ old.words
+  pub changes_cancel : (i : ℕ) → i < marks → change_of_both first second i ≡ pos 0
 
 abbrev pub TakesBack : Type 0
 TakesBack =
@@ -66,17 +66,17 @@ TakesBack =
 -- "two edits whose cycles do not meet", of a to b−1 and of c to d−1: the one and then the other, and the other and then the one
 pub record BothOrders
     (config : Config) (a b c d : ℕ) (samples others : Trace) (old one both other swapped : Held) (first second first' second' : RecheckResult) : Type 0 where
-  pub from-true : Checked config old
+  pub from_true : Checked config old
   pub apart : b ≤ c
-  pub one-first : Edit config a b samples old one first
-  pub other-second : Edit config c d others one both second
-  pub other-first : Edit config c d others old other first'
-  pub one-second : Edit config a b samples other swapped second'
+  pub one_first : Edit config a b samples old one first
+  pub other_second : Edit config c d others one both second
+  pub other_first : Edit config c d others old other first'
+  pub one_second : Edit config a b samples other swapped second'
 
 -- they "give the same record in either order", and the same sum of each mark's changes; no recheck is refused. Nothing is said of the ends, which "may differ".
 pub record SameRecord (both swapped : Held) (first second first' second' : RecheckResult) : Type 0 where
   pub accepted : (first.refusal ≡ 0) × (second.refusal ≡ 0)
-  pub accepted-swapped : (first'.refusal ≡ 0) × (second'.refusal ≡ 0)
+  pub accepted_swapped : (first'.refusal ≡ 0) × (second'.refusal ≡ 0)
   pub rows_same : both.rows ≡ swapped.rows
   pub words_same : both.words ≡ swapped.words
   pub sums_same : (i : ℕ) → i < marks → change_of_both first second i ≡ change_of_both first' second' i

@@ -8,4 +8,4 @@ use Rattle.waves.specs.Worked.{Worked}
 
 pub worked : Worked
 unfolding search_refusal line text digits_of each name value_at header changed cycle_lines waves only_marks waves_refusal
-worked = record { two-checkers = refl; cycle-3 = refl; two_digits = (refl, refl, refl); no-checker = refl; no-cycle = refl; refusals = (refl, refl, refl, refl, refl, refl) }
+worked = record { two_checkers = refl; cycle_3 = refl; two_digits = (refl, refl, refl); no_checker = refl; no_cycle = refl; refusals = (refl, refl, refl, refl, refl, refl) }

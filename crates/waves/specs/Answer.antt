@@ -28,5 +28,5 @@ left_in checkers cycles rows out refusal = cond (eqb refusal 0) (written (waves 
 
 pub record WavesAnswer (checkers cycles : ℕ) (rows out : List ℕ) (refusal due : ℕ) (out' : List ℕ) : Type 0 where
   pub refusal_is : refusal ≡ waves_refusal checkers cycles rows (length out)
-  pub length-is : due ≡ answered_length checkers cycles rows refusal
-  pub out-is : out' ≡ left_in checkers cycles rows out refusal
+  pub length_is : due ≡ answered_length checkers cycles rows refusal
+  pub out_is : out' ≡ left_in checkers cycles rows out refusal

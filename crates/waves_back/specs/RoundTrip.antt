@@ -29,15 +29,15 @@ frame_with p = 0 ∷ p ∷ 0 ∷ 0 ∷ 0 ∷ 0 ∷ 0 ∷ 0 ∷ []
 
 -- "is not refused, samples N frames", and what P is in each
 pub record ReadBack (cycles : ℕ) (p : ℕ → ℕ) (answer : Answer) : Type 0 where
-  pub not-refused : answer.refusal ≡ 0
+  pub not_refused : answer.refusal ≡ 0
   pub no_line : answer.line ≡ 0
-  pub no-identifier : answer.identifier ≡ 0
+  pub no_identifier : answer.identifier ≡ 0
   pub samples : length answer.frames ≡ cycles
   pub frame : (t : ℕ) → t < cycles → get_or answer.frames t [] ≡ frame_with (p t)
 
 -- Of waves that are not refused for their checkers, cycles and rows, with frames of room for as many cycles or more. No cycle, and no checker, are included: a dump with no cycle gives no frame, and one with no checker frames that are 0.
 pub record RoundTrip : Type 0 where
-  pub one-checker : (checkers cycles k room : ℕ) (rows lent : List ℕ) → search_refusal checkers cycles (length rows) ≡ 0 → only_marks rows ≡ true → k < checkers → length lent ≡ 8 * room → room ≤ 65536 → cycles ≤ room
+  pub for_one_checker : (checkers cycles k room : ℕ) (rows lent : List ℕ) → search_refusal checkers cycles (length rows) ≡ 0 → only_marks rows ≡ true → k < checkers → length lent ≡ 8 * room → room ≤ 65536 → cycles ≤ room
       → ReadBack cycles (row_at rows cycles k) (load (waves checkers cycles rows) (connections k) lent)
-  pub no-wires : (checkers cycles room : ℕ) (rows lent : List ℕ) → search_refusal checkers cycles (length rows) ≡ 0 → only_marks rows ≡ true → length lent ≡ 8 * room → room ≤ 65536 → cycles ≤ room
+  pub no_wires : (checkers cycles room : ℕ) (rows lent : List ℕ) → search_refusal checkers cycles (length rows) ≡ 0 → only_marks rows ≡ true → length lent ≡ 8 * room → room ≤ 65536 → cycles ≤ room
       → ReadBack cycles (λ t. 0) (load (waves checkers cycles rows) clock_alone lent)

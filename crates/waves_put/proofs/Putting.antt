@@ -9,19 +9,19 @@ use Rattle.bits.proofs.Stores.{sets-append}
 use Rattle.waves_put.specs.Put.{Put}
 
 pub put-none : (out : List ℕ) (at : ℕ) → Put [] out at out at
-put-none out at = record { next-is = omega arith; out-is = refl }
+put-none out at = record { next_is = omega arith; out_is = refl }
 
 pub put_one : (b : ℕ) (out : List ℕ) (at : ℕ) → Put (b ∷ []) out at (set out at b) (at + 1)
-put_one b out at = record { next-is = refl; out-is = refl }
+put_one b out at = record { next_is = refl; out_is = refl }
 
 pub put-length : {text out : List ℕ} {at : ℕ} {out' : List ℕ} {next : ℕ} → Put text out at out' next → length out' ≡ length out
-put-length {text} {out} {at} p = ap length p.out-is ∙ length-sets out at text
+put-length {text} {out} {at} p = ap length p.out_is ∙ length-sets out at text
 
 pub put-more : {text more out out' out'' : List ℕ} {at next last : ℕ} → Put text out at out' next → Put more out' next out'' last → Put (text ++ more) out at out'' last
 put-more {text} {more} {out} {at = at} {next} p q = record {
-  next-is = omega (arith, p.next-is, q.next-is, length-append text more);
-  out-is =
-      q.out-is ∙ ap (λ (l : List ℕ). sets l next more) p.out-is ∙ ap (λ (i : ℕ). sets (sets out at text) i more) p.next-is ∙ sym (sets-append out at text more);
+  next_is = omega (arith, p.next_is, q.next_is, length-append text more);
+  out_is =
+      q.out_is ∙ ap (λ (l : List ℕ). sets l next more) p.out_is ∙ ap (λ (i : ℕ). sets (sets out at text) i more) p.next_is ∙ sym (sets-append out at text more);
 }
 
 -- of a text that is to stand from `at` on, `left` is still to be put
@@ -44,7 +44,7 @@ module _ {text out : List ℕ} {at : ℕ} {left out' : List ℕ} {next : ℕ} (p
 
   -- there is room for what is left
   pub putting-room : at + length text ≤ length out → next + length left ≤ length out'
-  putting-room h = omega (arith, h, putting-length, p.put.next-is, ap length p.whole, length-append p.done left)
+  putting-room h = omega (arith, h, putting-length, p.put.next_is, ap length p.whole, length-append p.done left)
 
   pub putting-more : {more rest out'' : List ℕ} {last : ℕ} → left ≡ more ++ rest → Put more out' next out'' last → Putting text out at rest out'' last
   putting-more {more} {rest} e q = record {

@@ -11,8 +11,8 @@ returns c =
     let a = c.args in
     let k = get_or a.picked.now a.i 0 in
     record {
-      t-is = refl;
-      word-is =
+      t_is = refl;
+      word_is =
           ⊎_elim (λ w. w.1 ∙ word_first a.word a.words.now k w.0.taken) (λ w. w.2 ∙ word-later a.word a.words.now k w.0.left)
           c.if-k-eq0.branch;
       frame_is = c.frame_at-frame.ensures;

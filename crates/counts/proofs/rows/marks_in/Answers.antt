@@ -20,7 +20,7 @@ loop-at-init c =
       omega arith,
       omega arith,
       record {
-        all-marks = search rules;
+        all_marks = search rules;
         are = λ i h. c.all-tally.ensures i h ∙ sym (marks-none args.rows.now i args.from);
       },
     )
@@ -45,7 +45,7 @@ loop-at-preserved c =
       omega arith,
       omega arith,
       record {
-        all-marks = search rules;
+        all_marks = search rules;
         are = λ i h.
             omega (
               arith,
@@ -76,7 +76,7 @@ returns c =
     let rows = args.rows.now in
     let last : args.to ≡ suc at.at = omega arith in
     record {
-      all-marks = search rules;
+      all_marks = search rules;
       are = λ i h.
           c.with.ensures i h ∙ ap (λ (n : ℕ). n + to_bit (bit (get_or rows at.at 0) i)) (at.invariant.2.are i h)
           ∙ sym (ap (marks_in rows i args.from) last ∙ count-more rows i args.from at.at at.invariant.0);

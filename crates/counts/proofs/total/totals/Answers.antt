@@ -12,7 +12,7 @@ returns-then-rows-gt65536 c =
     let rows = c.args.rows.now in
     record {
       refusal_is = rw (lt-leb (length rows) 65536 c.if-rows-gt65536.true);
-      all-marks = refl;
+      all_marks = refl;
       done = λ e. absurd (omega arith);
       refused = λ _ i h. get_or-replicate marks i 0 0 h;
     }
@@ -22,7 +22,7 @@ returns c =
     let rows = c.args.rows.now in
     record {
       refusal_is = rw (le-leb (length rows) 65536 c.if-rows-gt65536.false);
-      all-marks = c.marks_in-tally.ensures.all-marks;
+      all_marks = c.marks_in-tally.ensures.all_marks;
       done = λ _. c.marks_in-tally.ensures;
       refused = λ n. absurd (n refl);
     }

@@ -7,7 +7,7 @@ use Rattle.cycle_entries.proofs.kinds.entries_in.Goals as goal
 
 pub lost_attempts-requires : goal.lost_attempts-requires
 lost_attempts-requires c =
-    let s = c.before in (s.requires.0.good, family-sequence s.args.c.kind c.if-kind-lt3.true, s.requires.0.possible-word)
+    let s = c.before in (s.requires.0.good, family-sequence s.args.c.kind c.if-kind-lt3.true, s.requires.0.possible_word)
 
 pub overflow_cast-result : goal.overflow_cast-result
 overflow_cast-result c =

@@ -5,7 +5,7 @@ use lib.ListN.{length}
 use Rattle.rules.specs.Step.{left_in}
 use Rattle.rules.proofs.Good.{family-sequence, family-time, family-transition, family-value, family-stability, kind-low}
 use Rattle.entries.proofs.Stored.{stored-length}
-use Rattle.cycle_entries.proofs.StepEntries.{lost-young, attempts-are, window-start, window-is, stored-before, transition-is, trigger-low, value_low, value-is, stability-low, stability-is}
+use Rattle.cycle_entries.proofs.StepEntries.{lost-young, attempts-are, window-start, window-is, stored-before, transition-is, trigger-low, value_low, value_is, stability-low, stability-is}
 use Rattle.cycle_entries.proofs.kinds.write_entries.Goals as goal
 
 -- ---- kind 6
@@ -39,7 +39,7 @@ write_entry-requires-in-7 c =
     let a = s.args in
     let fam = family-value a.c.kind c.in-7.keys2 in
     let h = value_low a.c a.word a.frame a.row a.t s.requires.0 fam in
-    let e = value-is a.c a.word a.frame a.row a.t s.requires.0 fam s.requires.1 in
+    let e = value_is a.c a.word a.frame a.row a.t s.requires.0 fam s.requires.1 in
     let start = c.trigger_cycle.ensures in
     (s.requires.0.low, rw start (trigger-low a.c a.word a.frame a.row a.t s.requires.0 a.word h.0 h.2), omega (arith, s.requires.2, ap length e))
 
@@ -64,7 +64,7 @@ write_entry-requires-in-8 c =
 -- ---- kinds 0 to 2
 pub lost_attempts-requires : goal.lost_attempts-requires
 lost_attempts-requires c =
-    let s = c.before.before in (s.requires.0.good, family-sequence s.args.c.kind c.if-kind-lt3.true, s.requires.0.possible-word)
+    let s = c.before.before in (s.requires.0.good, family-sequence s.args.c.kind c.if-kind-lt3.true, s.requires.0.possible_word)
 
 pub write_attempts-requires : goal.write_attempts-requires
 write_attempts-requires c =
@@ -131,7 +131,7 @@ returns-in-7 c =
     let s = c.before.before in
     let a = s.args in
     let fam = family-value a.c.kind c.in-7.keys2 in
-    rw (value-is a.c a.word a.frame a.row a.t s.requires.0 fam s.requires.1, ← c.trigger_cycle.ensures) c.write_entry-in-7.ensures
+    rw (value_is a.c a.word a.frame a.row a.t s.requires.0 fam s.requires.1, ← c.trigger_cycle.ensures) c.write_entry-in-7.ensures
 
 pub shape_of-list-in-8 : goal.shape_of-list-in-8
 shape_of-list-in-8 c = stored-length c.write_entry-in-8.ensures

@@ -21,10 +21,10 @@ ready : (s : goal.Start)
 ready s = settled-runnable false s.requires.0
 
 low : (l : goal.In-loop-at) → (start l).args.s.from + l.loop-at.at < frames (start l).args.trace.now
-low l = omega (arith, l.loop-at-test.true, (start l).requires.0.in-trace)
+low l = omega (arith, l.loop-at-test.true, (start l).requires.0.in_trace)
 
 pub kept_at_end-last-requires : goal.kept_at_end-last-requires
-kept_at_end-last-requires c = (c.requires.0.low, c.requires.0.words-hold)
+kept_at_end-last-requires c = (c.requires.0.low, c.requires.0.words_hold)
 
 pub loop-at-init : goal.loop-at-init
 loop-at-init c =
@@ -69,7 +69,7 @@ offset_bounds-rows-at c = let l = c.before.before in omega (arith, low l, (start
 
 pub bounds-rows-at : goal.bounds-rows-at
 bounds-rows-at c =
-    let l = c.before.before in omega (arith, l.loop-at-test.true, l.loop-at.invariant.0.rows_are.same_length, (start l).requires.0.rows-hold)
+    let l = c.before.before in omega (arith, l.loop-at-test.true, l.loop-at.invariant.0.rows_are.same_length, (start l).requires.0.rows_hold)
 
 pub offset_bounds-words-at : goal.offset_bounds-words-at
 offset_bounds-words-at c = let l = c.before.before in omega (arith, low l, (start l).requires.0.short)
@@ -77,7 +77,7 @@ offset_bounds-words-at c = let l = c.before.before in omega (arith, low l, (star
 pub bounds-words-at : goal.bounds-words-at
 bounds-words-at c =
     let l = c.before.before in
-    omega (arith, l.loop-at-test.true, l.loop-at.invariant.0.words_are.same_length, (start l).requires.0.words-hold)
+    omega (arith, l.loop-at-test.true, l.loop-at.invariant.0.words_are.same_length, (start l).requires.0.words_hold)
 
 pub offset_bounds-words-at-then-fails : goal.offset_bounds-words-at-then-fails
 offset_bounds-words-at-then-fails c = let l = c.before.before in omega (arith, low l, (start l).requires.0.short)
@@ -85,7 +85,7 @@ offset_bounds-words-at-then-fails c = let l = c.before.before in omega (arith, l
 pub bounds-words-at-then-fails : goal.bounds-words-at-then-fails
 bounds-words-at-then-fails c =
     let l = c.before.before in
-    omega (arith, l.loop-at-test.true, l.loop-at.invariant.0.words_are.same_length, (start l).requires.0.words-hold)
+    omega (arith, l.loop-at-test.true, l.loop-at.invariant.0.words_are.same_length, (start l).requires.0.words_hold)
 
 pub overflow_add-behind : goal.overflow_add-behind
 overflow_add-behind c = let l = c.before.before in omega (arith, low l, (start l).requires.0.short)
@@ -114,7 +114,7 @@ offset_bounds-words-at-in-loop-at c = let l = c.before.before in omega (arith, l
 pub bounds-words-at-in-loop-at : goal.bounds-words-at-in-loop-at
 bounds-words-at-in-loop-at c =
     let l = c.before.before in
-    omega (arith, l.loop-at-test.true, l.loop-at.invariant.0.words_are.same_length, (start l).requires.0.words-hold)
+    omega (arith, l.loop-at-test.true, l.loop-at.invariant.0.words_are.same_length, (start l).requires.0.words_hold)
 
 pub overflow_add-at : goal.overflow_add-at
 overflow_add-at c = let l = c.before.before in omega (arith, low l, (start l).requires.0.short)

@@ -36,4 +36,4 @@ pub returns : goal.returns
 returns c =
     let at = c.loop-i in
     let all : at.i ≡ length c.args.samples.now = omega arith in
-    record { trace-is = rw all at at.invariant.1; samples-are = rw all at at.invariant.2 }
+    record { trace_is = rw all at at.invariant.1; samples_are = rw all at at.invariant.2 }

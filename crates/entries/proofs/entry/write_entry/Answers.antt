@@ -23,6 +23,6 @@ unfolding words_of
 returns c =
     let a = c.args in
     record {
-      next-is = refl;
-      list-is = ap₂ (λ (i j : ℕ). set (set (set a.list.now a.at a.t) i a.mark) j a.start) (add-one a.at) (add-two a.at);
+      next_is = refl;
+      list_is = ap₂ (λ (i j : ℕ). set (set (set a.list.now a.at a.t) i a.mark) j a.start) (add-one a.at) (add-two a.at);
     }

@@ -39,7 +39,7 @@ write_entry-requires-2 c =
     let two = two-entries a.marks a.t a.start c.if-marks-ne3.false in (
       s.requires.2,
       s.requires.3,
-      omega (arith, s.requires.4, ap length two, first.ensures.next-is, stored-length first.ensures),
+      omega (arith, s.requires.4, ap length two, first.ensures.next_is, stored-length first.ensures),
     )
 
 pub shape_of-list : goal.shape_of-list

@@ -23,4 +23,4 @@ pub returns : goal.returns
 returns c =
     let searched = c.search.ensures in
     let due = sym c.search_refusal-refused.ensures ∙ c.if-refused-ne0.false in
-    record { refusal_is = searched.not-refused ∙ sym due; refused = λ h. absurd (h searched.not-refused); done = λ _. searched }
+    record { refusal_is = searched.not_refused ∙ sym due; refused = λ h. absurd (h searched.not_refused); done = λ _. searched }

@@ -4,7 +4,7 @@ use Rattle.std.proofs.Common.{◌≡◌, ◌-◌, ◌*◌, ◌^◌, eqb, ◌∙�
 use Rattle.bus.specs.Range.{width}
 use Rattle.bus.proofs.Ranges.{width-le}
 use Rattle.rules.specs.Config.Family.{stability}
-use Rattle.rules.specs.Possible.{possible_of, without_reference, with_areference}
+use Rattle.rules.specs.Possible.{possible_of, without_reference, with_a_reference}
 use Rattle.rules.proofs.Good.{p-within, possible-are, stability-config}
 use Rattle.misfits.proofs.Misfits.{or-zero, window-is, width_room}
 use Rattle.misfits.proofs.words.window_misfit.Goals as goal
@@ -35,7 +35,7 @@ cycles_misfit-requires c =
     let s = start c.before in let k = stability-config s.args.c s.pre.0 s.pre.1 in omega (arith, k)
 
 pub returns : goal.returns
-unfolding possible_of without_reference with_areference
+unfolding possible_of without_reference with_a_reference
 returns c =
     let d = c.before in
     let s = start d.before in

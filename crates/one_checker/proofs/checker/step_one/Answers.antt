@@ -7,4 +7,4 @@ pub returns : goal.returns
 returns c =
     let a = c.args in
     let s = rw c.frame_at.ensures at c.step-next.ensures in
-    (ap (set a.words.now a.k) s.word-is, ap (set a.rows.now a.k) s.row_is)
+    (ap (set a.words.now a.k) s.word_is, ap (set a.rows.now a.k) s.row_is)

@@ -29,12 +29,12 @@ pub overflow_add-count : goal.overflow_add-count
 overflow_add-count c =
     let at = c.loop-t in
     let run = c.run_block-block in
-    count_fits at.t run.result.cycles at.count c.count_block-count.result at.invariant.2.few c.count_block-count.ensures.few run.ensures.0.in-trace
+    count_fits at.t run.result.cycles at.count c.count_block-count.result at.invariant.2.few c.count_block-count.ensures.few run.ensures.0.in_trace
     at.invariant.1.short
 
 pub overflow_add-t : goal.overflow_add-t
 overflow_add-t c =
-    let block = c.before.before in place-fits block.run_block-block.ensures.0.in-trace block.loop-t.invariant.1.short
+    let block = c.before.before in place-fits block.run_block-block.ensures.0.in_trace block.loop-t.invariant.1.short
 
 pub loop-t-smaller : goal.loop-t-smaller
 loop-t-smaller c =
@@ -47,7 +47,7 @@ loop-t-preserved c =
     let at = c.before.before in
     let a = at.args in
     let run = c.run_block-block in (
-      run.ensures.0.in-trace,
+      run.ensures.0.in_trace,
       run.ensures.1,
       counted-more a.c (frame_at a.trace.now) at.loop-t.t run.result.cycles at.loop-t.invariant.2 c.count_block-count.ensures,
       run.ensures.0.picks.long,

@@ -37,14 +37,14 @@ write_block-at-requires c =
     let run = c.run_block-block in (
       at.loop-t.invariant.1,
       run.ensures.0,
-      entries_fit a.c (frame_at a.trace.now) at.loop-t.t run.result.cycles at.loop-t.invariant.2 (frames a.trace.now) run.ensures.0.in-trace
+      entries_fit a.c (frame_at a.trace.now) at.loop-t.t run.result.cycles at.loop-t.invariant.2 (frames a.trace.now) run.ensures.0.in_trace
           s.requires.2,
     )
 
 pub overflow_add-t : goal.overflow_add-t
 overflow_add-t c =
     let block = c.before.before in
-    place-fits block.run_block-block.ensures.0.in-trace block.loop-t.invariant.1.short
+    place-fits block.run_block-block.ensures.0.in_trace block.loop-t.invariant.1.short
 
 pub loop-t-smaller : goal.loop-t-smaller
 loop-t-smaller c =
@@ -57,7 +57,7 @@ loop-t-preserved c =
     let at = c.before.before in
     let a = at.args in
     let run = c.run_block-block in (
-      run.ensures.0.in-trace,
+      run.ensures.0.in_trace,
       run.ensures.1,
       stored_more a.c (frame_at a.trace.now) at.loop-t.t run.result.cycles at.loop-t.invariant.2 c.write_block-at.ensures,
       run.ensures.0.picks.long,

@@ -15,9 +15,9 @@ tested : (d : goal.After-recheck_refusal-tested)
 tested d = d.recheck_refusal-tested.ensures (start d).args.trace.now (start d).args.rows.now refl refl
 
 -- not refused
-not-refused : (e : goal.Else-tested-ne0)
+not_refused : (e : goal.Else-tested-ne0)
     → Refused (start e.before.before).args.c (start e.before.before).args.trace.now (start e.before.before).args.rows.now (start e.before.before).args.words.now (start e.before.before).args.a (start e.before.before).args.b 0 0
-not-refused e =
+not_refused e =
     let d = e.before.before in
     let a = (start d).args in
     refused-zero a.c a.trace.now a.rows.now a.words.now a.a a.b d.recheck_refusal-tested.result.refusal d.recheck_refusal-tested.result.cycle (tested d) e.if-tested-ne0.false
@@ -25,7 +25,7 @@ not-refused e =
 ok : (e : goal.Else-tested-ne0)
     → Taken (start e.before.before).args.c (start e.before.before).args.trace.now (start e.before.before).args.rows.now (start e.before.before).args.words.now (start e.before.before).args.a (start e.before.before).args.b
 ok e =
-    let a = (start e.before.before).args in taken a.c a.trace.now a.rows.now a.words.now a.a a.b (sym (not-refused e).refusal_is)
+    let a = (start e.before.before).args in taken a.c a.trace.now a.rows.now a.words.now a.a a.b (sym (not_refused e).refusal_is)
 
 -- the run may go on from the word before a
 ready : (k : goal.After-kept_before-word)
@@ -65,5 +65,5 @@ returns c =
     let k = run.before in
     let e = k.before in
     let a = (start e.before).args in
-    all_done a.c a.trace.now a.rows.now a.words.now a.a a.b _ _ run.resume-run.result.end run.resume-run.result.tally.counts c.changes_of.result (not-refused e) (ready k).low
+    all_done a.c a.trace.now a.rows.now a.words.now a.a a.b _ _ run.resume-run.result.end run.resume-run.result.tally.counts c.changes_of.result (not_refused e) (ready k).low
     c.changes_of.ensures.0 c.changes_of.ensures.1 run.resume-run.ensures

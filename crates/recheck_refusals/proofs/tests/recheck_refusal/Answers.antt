@@ -8,7 +8,7 @@ use lib.Dec.{leb}
 use lib.ListN.{length, replicate, length-replicate}
 use Rattle.lengths.specs.Lengths.{check_refusal}
 use Rattle.lengths.proofs.Refusals.{check-accepted}
-use Rattle.recheck_refusals.proofs.Refusals.{refused-first, refused-range, refused-word, not-refused}
+use Rattle.recheck_refusals.proofs.Refusals.{refused-first, refused-range, refused-word, not_refused}
 use Rattle.recheck_refusals.proofs.tests.recheck_refusal.Goals as goal
 
 abbrev start : goal.After-lengths_refusal-refused → goal.Start
@@ -54,4 +54,4 @@ returns c = λ ts rs p q.
     let r = c.before.before in
     let a = (start r.before).args in
     let first = c.first_impossible-spoiled in
-    not-refused a.c ts rs a.words.now a.a a.b (accepted r.before ts rs p q) (in-range r rs q) first.result first.ensures c.if-spoiled-words.false
+    not_refused a.c ts rs a.words.now a.a a.b (accepted r.before ts rs p q) (in-range r rs q) first.result first.ensures c.if-spoiled-words.false

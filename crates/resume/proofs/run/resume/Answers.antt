@@ -15,13 +15,13 @@ abbrev start : goal.In-loop-t → goal.Start
 start l = l.before.before.before.before.before.before.before.before
 
 here : (l : goal.In-loop-t) → l.loop-t.t < frames (start l).args.trace.now
-here l = subst (λ (n : ℕ). l.loop-t.t < n) (start l).requires.rows-length (bound-true _ _ _ l.loop-t-test.true)
+here l = subst (λ (n : ℕ). l.loop-t.t < n) (start l).requires.rows_length (bound-true _ _ _ l.loop-t-test.true)
 
 differs : (l : goal.In-loop-t) → (start l).args.b ≤ l.loop-t.t → l.loop-t.own_val ≡ l.loop-t.auto → ⊥
 differs l = l.goes_on.ensures.0 (bound-rest l.loop-t.t (length (start l).args.rows.now) l.goes_on.result l.loop-t-test.true)
 
 within : (d : goal.After-block_end-to) → d.block_end-to.result ≤ frames (start d.before.before).args.trace.now
-within d = omega (arith, d.block_end-to.ensures.1, (start d.before.before).pre.rows-length)
+within d = omega (arith, d.block_end-to.ensures.1, (start d.before.before).pre.rows_length)
 
 pub all-tally-requires : goal.all-tally-requires
 all-tally-requires c = tt
@@ -39,8 +39,8 @@ block_end-to-requires c =
     let s = start c in (
       c.loop-t.invariant.low,
       bound-true _ _ _ c.loop-t-test.true,
-      omega (arith, s.pre.high, s.pre.rows-length),
-      omega (arith, s.pre.short, s.pre.rows-length),
+      omega (arith, s.pre.high, s.pre.rows_length),
+      omega (arith, s.pre.short, s.pre.rows_length),
     )
 
 pub marks_in-old-requires : goal.marks_in-old-requires
@@ -48,7 +48,7 @@ marks_in-old-requires c =
     let d = c.before.before in
     let s = start d.before in
     let at = d.loop-t in
-    (omega (arith, d.block_end-to.ensures.0), omega (arith, within d, at.invariant.rows_are.same_length, s.pre.rows-length), omega (arith, within d, s.pre.short))
+    (omega (arith, d.block_end-to.ensures.0), omega (arith, within d, at.invariant.rows_are.same_length, s.pre.rows_length), omega (arith, within d, s.pre.short))
 
 pub run-reached-requires : goal.run-reached-requires
 run-reached-requires c =
@@ -64,7 +64,7 @@ marks_in-requires c =
     let at = d.loop-t in
     let run = c.run-reached in (
       omega (arith, d.block_end-to.ensures.0),
-      omega (arith, within d, run.ensures.come.rows_are.same_length, at.invariant.rows_are.same_length, s.pre.rows-length),
+      omega (arith, within d, run.ensures.come.rows_are.same_length, at.invariant.rows_are.same_length, s.pre.rows_length),
       omega (arith, within d, s.pre.short),
     )
 
@@ -86,7 +86,7 @@ loop-t-smaller c =
     let s = start d.before in
     let at = d.loop-t in
     let run = c.run-reached in
-    omega (arith, further s.args.c s.args.trace.now s.args.rows.now s.args.words.now s.args.a s.args.b s.args.word s.pre at.rows at.words at.t at.own_val at.auto at.tally.counts at.invariant d.block_end-to.result d.block_end-to.ensures.0 (within d) d.block_end-to.ensures.2 _ _ run.result run.ensures (differs d.before), run.ensures.come.high, within d, s.pre.rows-length)
+    omega (arith, further s.args.c s.args.trace.now s.args.rows.now s.args.words.now s.args.a s.args.b s.args.word s.pre at.rows at.words at.t at.own_val at.auto at.tally.counts at.invariant d.block_end-to.result d.block_end-to.ensures.0 (within d) d.block_end-to.ensures.2 _ _ run.result run.ensures (differs d.before), run.ensures.come.high, within d, s.pre.rows_length)
 
 pub loop-t-preserved : goal.loop-t-preserved
 loop-t-preserved c =
@@ -108,5 +108,5 @@ returns c =
     let s = c.before.before in
     let at = c.loop-t in
     going_done s.args.c s.args.trace.now s.args.rows.now s.args.words.now s.args.a s.args.b s.args.word s.requires at.rows at.words at.t at.own_val at.auto at.tally.counts at.invariant
-    (⊎_elim (λ (h : length s.args.rows.now ≤ at.t). omega (arith, s.requires.rows-length, s.requires.high)) (λ h. (c.goes_on.ensures.1 h).0) (bound-false _ _ _ c.loop-t-test.false))
-    (λ l. ⊎_elim (λ (h : length s.args.rows.now ≤ at.t). absurd (omega (arith, s.requires.rows-length))) (λ h. (c.goes_on.ensures.1 h).1) (bound-false _ _ _ c.loop-t-test.false))
+    (⊎_elim (λ (h : length s.args.rows.now ≤ at.t). omega (arith, s.requires.rows_length, s.requires.high)) (λ h. (c.goes_on.ensures.1 h).0) (bound-false _ _ _ c.loop-t-test.false))
+    (λ l. ⊎_elim (λ (h : length s.args.rows.now ≤ at.t). absurd (omega (arith, s.requires.rows_length))) (λ h. (c.goes_on.ensures.1 h).1) (bound-false _ _ _ c.loop-t-test.false))

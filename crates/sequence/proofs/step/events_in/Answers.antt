@@ -12,5 +12,5 @@ returns c =
     record {
       up_is = seen.out_of_reset.ensures;
       seen_are = λ i l. seen.in_order.ensures i l ∙ ap (λ (x : ℕ). bit (value_of k.p x) (k.n - 1 - i)) seen.sample.ensures;
-      unknown-are = c.unknown_in_order.ensures;
+      unknown_are = c.unknown_in_order.ensures;
     }

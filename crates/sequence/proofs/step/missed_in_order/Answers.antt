@@ -30,4 +30,4 @@ returns c =
     (λ i l.
     bit-without all (bit_or e u) i
     ∙ ap₂ (λ (a b : Bool). a && not b) (ap (λ (x : ℕ). bit x i) ones.low_ones-all.ensures ∙ bit-ones k.n i l) (bit-or e u i)
-    ∙ neither k 0 f e (sequence-config k s.requires.0 s.requires.1).low sees.seen_are u sees.unknown-are i l)
+    ∙ neither k 0 f e (sequence-config k s.requires.0 s.requires.1).low sees.seen_are u sees.unknown_are i l)

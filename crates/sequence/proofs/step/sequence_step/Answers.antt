@@ -50,7 +50,7 @@ stepped e b next row st n failure doubt opened g d o r f sees =
     let s = e.before in
     let a = s.args in
     let (low, high, small) = fit s in
-    steps a.c a.word f a.events.seen low sees.seen_are a.events.unknown sees.unknown-are small e.Ended-of.result e.Ended-of.ensures b next row st n
+    steps a.c a.word f a.events.seen low sees.seen_are a.events.unknown sees.unknown_are small e.Ended-of.result e.Ended-of.ensures b next row st n
     (r ∙ rw (g, d, o) refl)
 
 pub ended_of-ended-requires : goal.ended_of-ended-requires

@@ -18,7 +18,7 @@ ready : (s : goal.Start) → Runnable s.args.c s.args.trace.now s.args.rows.now 
 ready s = settled-runnable true s.requires.0
 
 low : (l : goal.Else-word-kept) → (start l).args.s.from + l.loop-at.at < frames (start l).args.trace.now
-low l = omega (arith, l.loop-at-test.true, (start l).requires.0.in-trace)
+low l = omega (arith, l.loop-at-test.true, (start l).requires.0.in_trace)
 
 pub loop-at-init : goal.loop-at-init
 loop-at-init c =
@@ -45,7 +45,7 @@ pub events_at-requires : goal.events_at-requires
 events_at-requires c = ((start c).requires.0.good, (start c).requires.1.0, low c)
 
 pub events_cycle-next-requires : goal.events_cycle-next-requires
-events_cycle-next-requires c = let l = c.before.before in ((start l).requires.0.good, (start l).requires.1, l.loop-at.invariant.possible-word)
+events_cycle-next-requires c = let l = c.before.before in ((start l).requires.0.good, (start l).requires.1, l.loop-at.invariant.possible_word)
 
 pub offset_bounds-words-at : goal.offset_bounds-words-at
 offset_bounds-words-at c = let l = c.before.before in omega (arith, low l, (start l).requires.0.short)
@@ -53,7 +53,7 @@ offset_bounds-words-at c = let l = c.before.before in omega (arith, low l, (star
 pub bounds-words-at : goal.bounds-words-at
 bounds-words-at c =
     let l = c.before.before in
-    omega (arith, l.loop-at-test.true, l.loop-at.invariant.words_are.same_length, (start l).requires.0.words-hold)
+    omega (arith, l.loop-at-test.true, l.loop-at.invariant.words_are.same_length, (start l).requires.0.words_hold)
 
 pub offset_bounds-rows-at : goal.offset_bounds-rows-at
 offset_bounds-rows-at c = let l = c.before.before in omega (arith, low l, (start l).requires.0.short)
@@ -61,7 +61,7 @@ offset_bounds-rows-at c = let l = c.before.before in omega (arith, low l, (start
 pub bounds-rows-at : goal.bounds-rows-at
 bounds-rows-at c =
     let l = c.before.before in
-    omega (arith, l.loop-at-test.true, l.loop-at.invariant.rows_are.same_length, (start l).requires.0.rows-hold)
+    omega (arith, l.loop-at-test.true, l.loop-at.invariant.rows_are.same_length, (start l).requires.0.rows_hold)
 
 pub offset_bounds-words-at-in-loop-at : goal.offset_bounds-words-at-in-loop-at
 offset_bounds-words-at-in-loop-at c = let l = c.before.before in omega (arith, low l, (start l).requires.0.short)
@@ -69,7 +69,7 @@ offset_bounds-words-at-in-loop-at c = let l = c.before.before in omega (arith, l
 pub bounds-words-at-in-loop-at : goal.bounds-words-at-in-loop-at
 bounds-words-at-in-loop-at c =
     let l = c.before.before in
-    omega (arith, l.loop-at-test.true, l.loop-at.invariant.words_are.same_length, (start l).requires.0.words-hold)
+    omega (arith, l.loop-at-test.true, l.loop-at.invariant.words_are.same_length, (start l).requires.0.words_hold)
 
 pub overflow_add-at : goal.overflow_add-at
 overflow_add-at c = let l = c.before.before in omega (arith, low l, (start l).requires.0.short)

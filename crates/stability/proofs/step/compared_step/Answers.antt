@@ -42,7 +42,7 @@ row_is : (r : goal.After-window_row-row) (f : Frame) → (start r).args.enable �
 row_is r f on tracks =
     let s = start r in
     compared-row s.args.c s.args.word f s.pre.3 (left s) s.args.enable s.args.t.known s.args.t.value r.window_row-row.result
-    on tracks.known_is tracks.value-is r.window_row-row.ensures
+    on tracks.known_is tracks.value_is r.window_row-row.ensures
 
 pub returns-then-last : goal.returns-then-last
 returns-then-last c = λ f on tracks.

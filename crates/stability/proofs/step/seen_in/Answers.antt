@@ -13,7 +13,7 @@ running e = sym e.out_of_reset.ensures ∙ not-false _ e.if-not-out_of_reset.fal
 pub returns-then-not-out_of_reset : goal.returns-then-not-out_of_reset
 returns-then-not-out_of_reset c =
     let down : up c.args.frame ≡ false = sym c.out_of_reset.ensures ∙ not-true _ c.if-not-out_of_reset.true in
-    record { up_is = sym down; enabled-is = λ u. absurd (of-false down (of-true u)); trigger-is = λ u. absurd (of-false down (of-true u)) }
+    record { up_is = sym down; enabled_is = λ u. absurd (of-false down (of-true u)); trigger_is = λ u. absurd (of-false down (of-true u)) }
 
 pub is_enabled-requires : goal.is_enabled-requires
 is_enabled-requires c = running c
@@ -25,4 +25,4 @@ sees_trigger-requires c =
     (q-within s.args.c s.requires.0, (stability-config s.args.c s.requires.0 s.requires.1).q-width, running e)
 
 pub returns : goal.returns
-returns c = record { up_is = sym (running c.before); enabled-is = λ _. c.is_enabled.ensures; trigger-is = λ _. c.sees_trigger.ensures }
+returns c = record { up_is = sym (running c.before); enabled_is = λ _. c.is_enabled.ensures; trigger_is = λ _. c.sees_trigger.ensures }

@@ -67,4 +67,4 @@ returns c = λ f o on tracks.
     (c.first_word.ensures
     ∙ ap (λ (x : ℕ). cond (eqb l.if-opened.left 0) 0 (l.if-opened.left + x))
     (ap₂ (λ (t k : Bool). cond (t && k) (with_reference a.t.value) 0) tested tracks.known_is
-    ∙ reference-known (enabled f && leb l.if-opened.left (a.c.n - a.c.min)) (known_p a.c f) a.t.value (P a.c f) tracks.value-is))
+    ∙ reference-known (enabled f && leb l.if-opened.left (a.c.n - a.c.min)) (known_p a.c f) a.t.value (P a.c f) tracks.value_is))

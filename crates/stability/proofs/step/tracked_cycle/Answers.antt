@@ -39,7 +39,7 @@ steps e f r sees to =
     let u = running e f sees in
     let some = is_true (not (eqb a.word 0) || a.seen.trigger) (and_right a.seen.up (not (eqb a.word 0) || a.seen.trigger) (of-true (is_open e))) in
     steps_of a.c a.word f s.pre.1.1 stability r.row r.word u s.pre.1.0
-    (to (seen-opens a.c a.word f a.seen.trigger (sees.trigger-is u) some) (sees.enabled-is u))
+    (to (seen-opens a.c a.word f a.seen.trigger (sees.trigger_is u) some) (sees.enabled_is u))
 
 pub returns-then-not-is_open : goal.returns-then-not-is_open
 unfolding is_open_at
@@ -50,7 +50,7 @@ returns-then-not-is_open c = λ f sees _.
     ⊎_elim
     (λ (u : up f ≡ true).
     steps_of a.c a.word f s.requires.1.1 stability 0 0 u s.requires.1.0
-    (idle-seen a.c a.word f a.seen.trigger (sees.trigger-is u) (idle a.seen.up (sees.up_is ∙ u) none)))
+    (idle-seen a.c a.word f a.seen.trigger (sees.trigger_is u) (idle a.seen.up (sees.up_is ∙ u) none)))
     (λ (d : up f ≡ false). steps-in-reset a.c a.word f s.requires.1.1 d) (either (up f))
   where
     idle : (b : Bool) {x : Bool} → b ≡ true → (b && x) ≡ false → x ≡ false
@@ -67,7 +67,7 @@ returns-then-t c = λ f sees tracks.
     let e = t.before in
     let k = tracks (is_open e) in
     steps e f c.stability_step.result sees
-    (λ o on. c.stability_step.ensures f o on (record { known_is = sym t.if-t.true ∙ k.known_is; value-is = k.value-is }))
+    (λ o on. c.stability_step.ensures f o on (record { known_is = sym t.if-t.true ∙ k.known_is; value_is = k.value_is }))
 
 pub stability_step-requires-2 : goal.stability_step-requires-2
 stability_step-requires-2 c =

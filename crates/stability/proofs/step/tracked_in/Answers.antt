@@ -22,7 +22,7 @@ returns-then-unknown-eq0 c = λ _.
     let a = (start v).args in
     record {
       known_is = none-known a.c.p (unknown a.t2 1) c.if-unknown-eq0.true;
-      value-is = λ e. v.masked_value-value.ensures ∙ read_known a.c.p (frame_word a.t2 1) (unknown a.t2 1) e;
+      value_is = λ e. v.masked_value-value.ensures ∙ read_known a.c.p (frame_word a.t2 1) (unknown a.t2 1) e;
     }
 
 pub has_one-requires : goal.has_one-requires
@@ -34,5 +34,5 @@ returns c = λ _.
     let a = (start v).args in
     record {
       known_is = known_is a.c.p (unknown a.t2 1) c.Has-one.result c.Has-one.ensures;
-      value-is = λ e. v.masked_value-value.ensures ∙ read_known a.c.p (frame_word a.t2 1) (unknown a.t2 1) e;
+      value_is = λ e. v.masked_value-value.ensures ∙ read_known a.c.p (frame_word a.t2 1) (unknown a.t2 1) e;
     }

@@ -27,7 +27,7 @@ pub returns-then-kept : goal.returns-then-kept
 returns-then-kept c =
     let at = c.loop-at in
     let s = c.before in
-    settled-stayed s.requires.4 (record { come = at.invariant; word-is = refl; ended = λ _. (refl, c.if-kept.true) })
+    settled-stayed s.requires.4 (record { come = at.invariant; word_is = refl; ended = λ _. (refl, c.if-kept.true) })
 
 pub offset_bounds-words-at : goal.offset_bounds-words-at
 offset_bounds-words-at c = omega (arith, c.loop-at-test.true, (start c).requires.3)
@@ -75,4 +75,4 @@ shape_of-words c = c.loop-at.invariant.words_are.same_length
 pub returns : goal.returns
 returns c =
     let s = c.before in
-    settled-stayed s.requires.4 (record { come = c.loop-at.invariant; word-is = refl; ended = λ l. absurd (omega arith) })
+    settled-stayed s.requires.4 (record { come = c.loop-at.invariant; word_is = refl; ended = λ l. absurd (omega arith) })

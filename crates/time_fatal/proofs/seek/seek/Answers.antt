@@ -17,7 +17,7 @@ abbrev start : goal.Else-word-kept → goal.Start
 start l = l.before.before.before.before.before.before.before
 
 low : (l : goal.Else-word-kept) → (start l).args.s.from + l.loop-at.at < frames (start l).args.trace.now
-low l = omega (arith, l.loop-at-test.true, (start l).requires.0.in-trace)
+low l = omega (arith, l.loop-at-test.true, (start l).requires.0.in_trace)
 
 ready : (s : goal.Start)
     → Runnable (fatally s.args.c) s.args.trace.now s.args.rows.now s.args.words.now (settled s.args.s true)
@@ -62,7 +62,7 @@ offset_bounds-words-at c = let l = c.before.before in omega (arith, low l, (star
 pub bounds-words-at : goal.bounds-words-at
 bounds-words-at c =
     let l = c.before.before in
-    omega (arith, l.loop-at-test.true, l.loop-at.invariant.0.words_are.same_length, (start l).requires.0.words-hold)
+    omega (arith, l.loop-at-test.true, l.loop-at.invariant.0.words_are.same_length, (start l).requires.0.words_hold)
 
 pub offset_bounds-rows-at : goal.offset_bounds-rows-at
 offset_bounds-rows-at c = let l = c.before.before in omega (arith, low l, (start l).requires.0.short)
@@ -70,7 +70,7 @@ offset_bounds-rows-at c = let l = c.before.before in omega (arith, low l, (start
 pub bounds-rows-at : goal.bounds-rows-at
 bounds-rows-at c =
     let l = c.before.before in
-    omega (arith, l.loop-at-test.true, l.loop-at.invariant.0.rows_are.same_length, (start l).requires.0.rows-hold)
+    omega (arith, l.loop-at-test.true, l.loop-at.invariant.0.rows_are.same_length, (start l).requires.0.rows_hold)
 
 pub offset_bounds-words-at-then-fails : goal.offset_bounds-words-at-then-fails
 offset_bounds-words-at-then-fails c = let l = c.before.before in omega (arith, low l, (start l).requires.0.short)
@@ -78,7 +78,7 @@ offset_bounds-words-at-then-fails c = let l = c.before.before in omega (arith, l
 pub bounds-words-at-then-fails : goal.bounds-words-at-then-fails
 bounds-words-at-then-fails c =
     let l = c.before.before in
-    omega (arith, l.loop-at-test.true, l.loop-at.invariant.0.words_are.same_length, (start l).requires.0.words-hold)
+    omega (arith, l.loop-at-test.true, l.loop-at.invariant.0.words_are.same_length, (start l).requires.0.words_hold)
 
 pub overflow_add-behind : goal.overflow_add-behind
 overflow_add-behind c = let l = c.before.before in omega (arith, low l, (start l).requires.0.short)
@@ -108,7 +108,7 @@ offset_bounds-words-at-in-loop-at c = let l = c.before.before in omega (arith, l
 pub bounds-words-at-in-loop-at : goal.bounds-words-at-in-loop-at
 bounds-words-at-in-loop-at c =
     let l = c.before.before in
-    omega (arith, l.loop-at-test.true, l.loop-at.invariant.0.words_are.same_length, (start l).requires.0.words-hold)
+    omega (arith, l.loop-at-test.true, l.loop-at.invariant.0.words_are.same_length, (start l).requires.0.words_hold)
 
 pub overflow_add-at : goal.overflow_add-at
 overflow_add-at c = let l = c.before.before in omega (arith, low l, (start l).requires.0.short)

@@ -11,8 +11,8 @@ returns c = λ h.
     of-true (rw (c.descends.ensures, c.descends-2.ensures, c.descends-3.ensures) at h) in
     let rest = and_right (leb a.p.right a.p.left) (leb a.q.right a.q.left && leb a.r.right a.r.left) all in
     record {
-      p-descends =
+      p_descends =
           leb→le a.p.right a.p.left (and_left (leb a.p.right a.p.left) (leb a.q.right a.q.left && leb a.r.right a.r.left) all);
-      q-descends = leb→le a.q.right a.q.left (and_left (leb a.q.right a.q.left) (leb a.r.right a.r.left) rest);
-      r-descends = leb→le a.r.right a.r.left (and_right (leb a.q.right a.q.left) (leb a.r.right a.r.left) rest);
+      q_descends = leb→le a.q.right a.q.left (and_left (leb a.q.right a.q.left) (leb a.r.right a.r.left) rest);
+      r_descends = leb→le a.r.right a.r.left (and_right (leb a.q.right a.q.left) (leb a.r.right a.r.left) rest);
     }

@@ -9,13 +9,13 @@ abbrev start : goal.After-descending_value-arg-1 → goal.Start
 start c = c.before.before.before.before.before
 
 pub descending_value-requires : goal.descending_value-requires
-descending_value-requires c = let s = start c in (p-within s.args.c s.pre.0, s.pre.1.p-descends)
+descending_value-requires c = let s = start c in (p-within s.args.c s.pre.0, s.pre.1.p_descends)
 
 pub descending_value-requires-2 : goal.descending_value-requires-2
-descending_value-requires-2 c = let s = start c.before in (q-within s.args.c s.pre.0, s.pre.1.q-descends)
+descending_value-requires-2 c = let s = start c.before in (q-within s.args.c s.pre.0, s.pre.1.q_descends)
 
 pub descending_value-requires-3 : goal.descending_value-requires-3
-descending_value-requires-3 c = let s = start c.before in (r-within s.args.c s.pre.0, s.pre.1.r-descends)
+descending_value-requires-3 c = let s = start c.before in (r-within s.args.c s.pre.0, s.pre.1.r_descends)
 
 pub returns : goal.returns
 returns c =
@@ -26,7 +26,7 @@ returns c =
     let f = s.args.t2 in
     record {
       up_is = first.out_of_reset.ensures;
-      test-is = λ e. first.descending_value.ensures ∙ read_known k.p (frame_word f 1) (unknown f 1) e;
+      test_is = λ e. first.descending_value.ensures ∙ read_known k.p (frame_word f 1) (unknown f 1) e;
       start_is = λ e. second.descending_value-2.ensures ∙ read_known k.q (frame_word f 2) (unknown f 2) e;
-      next-is = λ e. c.descending_value-3.ensures ∙ read_known k.r (frame_word f 3) (unknown f 3) e;
+      next_is = λ e. c.descending_value-3.ensures ∙ read_known k.r (frame_word f 3) (unknown f 3) e;
     }

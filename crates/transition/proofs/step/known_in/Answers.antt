@@ -15,7 +15,7 @@ returns-then-p_unknown-q_unknown-eq0 c =
     let two = none_left (bit_or (unknown a.t2 1) (unknown a.t2 2)) (unknown a.t2 3) c.if-p_unknown-q_unknown-eq0.true in
     record {
       test_known = none-known a.c.p (unknown a.t2 1) (none_left (unknown a.t2 1) (unknown a.t2 2) two);
-      start-known = none-known a.c.q (unknown a.t2 2) (none_right (unknown a.t2 1) (unknown a.t2 2) two);
+      start_known = none-known a.c.q (unknown a.t2 2) (none_right (unknown a.t2 1) (unknown a.t2 2) two);
       next_known = none-known a.c.r (unknown a.t2 3) (none_right (bit_or (unknown a.t2 1) (unknown a.t2 2)) (unknown a.t2 3) c.if-p_unknown-q_unknown-eq0.true);
     }
 
@@ -33,6 +33,6 @@ returns c =
     let a = (start c.before).args in
     record {
       test_known = known_is a.c.p (unknown a.t2 1) c.before.Has-one.result c.before.Has-one.ensures;
-      start-known = known_is a.c.q (unknown a.t2 2) c.has_one-2.result c.has_one-2.ensures;
+      start_known = known_is a.c.q (unknown a.t2 2) c.has_one-2.result c.has_one-2.ensures;
       next_known = known_is a.c.r (unknown a.t2 3) c.has_one-3.result c.has_one-3.ensures;
     }

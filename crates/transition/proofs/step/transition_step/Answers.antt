@@ -12,7 +12,7 @@ returns-then-starts-known c = λ k f fam h v u.
     let a = (start at).args in
     record {
       row_is = transition-row k a.word f fam h a.values a.known v u at.check_row-row.result at.check_row-row.ensures;
-      word-is = transition-next k a.word f fam h a.values a.known v u true c.if-starts-known.true;
+      word_is = transition-next k a.word f fam h a.values a.known v u true c.if-starts-known.true;
     }
 
 pub returns-else-starts-known : goal.returns-else-starts-known
@@ -21,5 +21,5 @@ returns-else-starts-known c = λ k f fam h v u.
     let a = (start at).args in
     record {
       row_is = transition-row k a.word f fam h a.values a.known v u at.check_row-row.result at.check_row-row.ensures;
-      word-is = transition-next k a.word f fam h a.values a.known v u false c.if-starts-known.false;
+      word_is = transition-next k a.word f fam h a.values a.known v u false c.if-starts-known.false;
     }

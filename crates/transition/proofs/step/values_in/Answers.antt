@@ -26,7 +26,7 @@ returns c =
     let f = s.args.t2 in
     record {
       up_is = first.out_of_reset.ensures;
-      test-is = λ e. first.value.ensures ∙ read_known k.p (frame_word f 1) (unknown f 1) e;
+      test_is = λ e. first.value.ensures ∙ read_known k.p (frame_word f 1) (unknown f 1) e;
       start_is = λ e. second.value-2.ensures ∙ read_known k.q (frame_word f 2) (unknown f 2) e;
-      next-is = λ e. c.value-3.ensures ∙ read_known k.r (frame_word f 3) (unknown f 3) e;
+      next_is = λ e. c.value-3.ensures ∙ read_known k.r (frame_word f 3) (unknown f 3) e;
     }

@@ -18,10 +18,10 @@ ready : (s : goal.Start) → Runnable s.args.c s.args.trace.now s.args.rows.now 
 ready s = settled-runnable false s.requires.0
 
 low : (l : goal.In-loop-at) → (start l).args.s.from + l.loop-at.at < frames (start l).args.trace.now
-low l = omega (arith, (start l).requires.0.in-trace)
+low l = omega (arith, (start l).requires.0.in_trace)
 
 pub kept_at_end-last-requires : goal.kept_at_end-last-requires
-kept_at_end-last-requires c = (c.requires.0.low, c.requires.0.words-hold)
+kept_at_end-last-requires c = (c.requires.0.low, c.requires.0.words_hold)
 
 pub loop-at-init : goal.loop-at-init
 loop-at-init c =
@@ -38,19 +38,19 @@ pub known_at-requires : goal.known_at-requires
 known_at-requires c = let l = c.before.before in ((start l).requires.0.good, low l)
 
 pub values_cycle-next-requires : goal.values_cycle-next-requires
-values_cycle-next-requires c = let l = c.before.before in ((start l).requires.0.good, (start l).requires.1, l.loop-at.invariant.possible-word)
+values_cycle-next-requires c = let l = c.before.before in ((start l).requires.0.good, (start l).requires.1, l.loop-at.invariant.possible_word)
 
 pub offset_bounds-rows-at : goal.offset_bounds-rows-at
 offset_bounds-rows-at c = let l = c.before.before in omega (arith, low l, (start l).requires.0.short)
 
 pub bounds-rows-at : goal.bounds-rows-at
-bounds-rows-at c = let l = c.before.before in omega (arith, l.loop-at.invariant.rows_are.same_length, (start l).requires.0.rows-hold)
+bounds-rows-at c = let l = c.before.before in omega (arith, l.loop-at.invariant.rows_are.same_length, (start l).requires.0.rows_hold)
 
 pub offset_bounds-words-at : goal.offset_bounds-words-at
 offset_bounds-words-at c = let l = c.before.before in omega (arith, low l, (start l).requires.0.short)
 
 pub bounds-words-at : goal.bounds-words-at
-bounds-words-at c = let l = c.before.before in omega (arith, l.loop-at.invariant.words_are.same_length, (start l).requires.0.words-hold)
+bounds-words-at c = let l = c.before.before in omega (arith, l.loop-at.invariant.words_are.same_length, (start l).requires.0.words_hold)
 
 pub overflow_add-at : goal.overflow_add-at
 overflow_add-at c = let l = c.before.before in omega (arith, low l, (start l).requires.0.short)

@@ -24,14 +24,14 @@ bounds-out-end c =
     let s = c.before in
     let a = s.args in
     let named = c.put_name-end in
-    omega (arith, s.requires.3, value-length a.value a.checker a.mark, length-set a.out.now a.at (48 + a.value), named.ensures.next-is, put-length named.ensures)
+    omega (arith, s.requires.3, value-length a.value a.checker a.mark, length-set a.out.now a.at (48 + a.value), named.ensures.next_is, put-length named.ensures)
 
 pub overflow_add-result : goal.overflow_add-result
 overflow_add-result c =
     let s = c.before in
     let a = s.args in
     let named = c.put_name-end in
-    omega (arith, s.requires.3, value-length a.value a.checker a.mark, named.ensures.next-is)
+    omega (arith, s.requires.3, value-length a.value a.checker a.mark, named.ensures.next_is)
 
 pub returns : goal.returns
 unfolding line

@@ -20,14 +20,14 @@ bounds-out-middle c =
     let s = c.before in
     let a = s.args in
     let first = c.put_small-middle in
-    omega (arith, s.requires.2, name-length a.checker a.mark, length-set a.out.now a.at 107, first.ensures.next-is, put-length first.ensures)
+    omega (arith, s.requires.2, name-length a.checker a.mark, length-set a.out.now a.at 107, first.ensures.next_is, put-length first.ensures)
 
 pub overflow_add-middle : goal.overflow_add-middle
 overflow_add-middle c =
     let s = c.before in
     let a = s.args in
     let first = c.put_small-middle in
-    omega (arith, s.requires.2, name-length a.checker a.mark, first.ensures.next-is)
+    omega (arith, s.requires.2, name-length a.checker a.mark, first.ensures.next_is)
 
 pub put_small-requires : goal.put_small-requires
 put_small-requires c =
@@ -35,7 +35,7 @@ put_small-requires c =
     let a = s.args in
     let first = c.put_small-middle in
     let kept = put-length first.ensures in
-    (s.requires.1, simp length-set (omega (arith, s.requires.2, name-length a.checker a.mark, first.ensures.next-is, length-set a.out.now a.at 107)))
+    (s.requires.1, simp length-set (omega (arith, s.requires.2, name-length a.checker a.mark, first.ensures.next_is, length-set a.out.now a.at 107)))
 
 pub returns : goal.returns
 returns c =

@@ -21,7 +21,7 @@ put_pair-requires c =
     let h = c.if-n-lt100 in
     let s = c.before in
     let n = s.args.n in
-    (omega arith, omega (arith, s.requires.1, first.ensures.next-is, put-length first.ensures, ap length (hundreds n h.false), length-append (decimal (n / 100)) (pair (n % 100))))
+    (omega arith, omega (arith, s.requires.1, first.ensures.next_is, put-length first.ensures, ap length (hundreds n h.false), length-append (decimal (n / 100)) (pair (n % 100))))
 
 pub shape_of-out-then-n-lt10000 : goal.shape_of-out-then-n-lt10000
 shape_of-out-then-n-lt10000 c = put-length c.put_pair.ensures ∙ put-length c.put_small-hundreds.ensures
@@ -45,7 +45,7 @@ pub put_pair-hundreds-requires : goal.put_pair-hundreds-requires
 put_pair-hundreds-requires c =
     let first = c.put_small-highest in
     let s = c.before in
-    (omega arith, omega (arith, s.requires.1, first.ensures.next-is, put-length first.ensures, parts s.args.n c.if-n-lt10000.false))
+    (omega arith, omega (arith, s.requires.1, first.ensures.next_is, put-length first.ensures, parts s.args.n c.if-n-lt10000.false))
 
 pub put_pair-requires-2 : goal.put_pair-requires-2
 put_pair-requires-2 c =
@@ -54,7 +54,7 @@ put_pair-requires-2 c =
     let s = c.before in
     let big = c.if-n-lt10000.false in (
       omega arith,
-      omega (arith, s.requires.1, first.ensures.next-is, put-length first.ensures, second.ensures.next-is, put-length second.ensures, parts s.args.n big),
+      omega (arith, s.requires.1, first.ensures.next_is, put-length first.ensures, second.ensures.next_is, put-length second.ensures, parts s.args.n big),
     )
 
 pub shape_of-out : goal.shape_of-out

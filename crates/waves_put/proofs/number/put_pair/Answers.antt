@@ -10,4 +10,4 @@ pub bounds-out-at-2 : goal.bounds-out-at-2
 bounds-out-at-2 c = let a = c.args in omega (arith, c.requires.1, length-set a.out.now a.at (48 + a.n / 10))
 
 pub returns : goal.returns
-returns c = record { next-is = refl; out-is = rw (add-one c.args.at) }
+returns c = record { next_is = refl; out_is = rw (add-one c.args.at) }

@@ -1,6 +1,6 @@
 -- `checker::monitor::Monitor::step` meets its contract: what is not refused is what `step` takes. Assumes nothing.
 use mathlib.Core.Path.{sym, ◌∙◌}
-use Rattle.open_words.proofs.Refusals.{not-refused}
+use Rattle.open_words.proofs.Refusals.{not_refused}
 use Rattle.checker.proofs.Answers.{step-refused, step-taken}
 use Rattle.checker.proofs.monitor.Monitor.step.Goals as goal
 
@@ -12,8 +12,8 @@ returns-then-refused-ne0 c =
 pub step-next-requires : goal.step-next-requires
 step-next-requires c =
     let a = c.args.self in
-    let ok = not-refused a.config a.word (sym c.refusal-refused.ensures ∙ c.if-refused-ne0.false) in
-    (ok.good, ok.possible-word)
+    let ok = not_refused a.config a.word (sym c.refusal-refused.ensures ∙ c.if-refused-ne0.false) in
+    (ok.good, ok.possible_word)
 
 pub returns : goal.returns
 returns c =

@@ -12,7 +12,7 @@ use Rattle.halves.proofs.Weights.{both-mask, both-masked}
 use Rattle.halves.proofs.paired.Paired.with.Goals as goal
 
 pub loop-i-init : goal.loop-i-init
-loop-i-init c = record { low = omega arith; all-marks = search rules; done = below_none _; rest = λ k l. refl }
+loop-i-init c = record { low = omega arith; all_marks = search rules; done = below_none _; rest = λ k l. refl }
 
 pub bounds-sums-i : goal.bounds-sums-i
 bounds-sums-i c = c.loop-i-test.true

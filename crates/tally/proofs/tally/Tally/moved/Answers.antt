@@ -10,7 +10,7 @@ use Rattle.tally.proofs.Tallies.{walked_more}
 use Rattle.tally.proofs.tally.Tally.moved.Goals as goal
 
 pub loop-i-init : goal.loop-i-init
-loop-i-init c = record { low = omega arith; all-marks = search rules; done = below_none _; rest = λ k l. refl }
+loop-i-init c = record { low = omega arith; all_marks = search rules; done = below_none _; rest = λ k l. refl }
 
 pub bounds-counts-i : goal.bounds-counts-i
 bounds-counts-i c = c.loop-i-test.true
