@@ -1,7 +1,4 @@
--- Laws of the bench's refusals and of its two loops, and the proofs of its functions.
+-- Laws of the bench's refusals and of its two loops.
 pub mod Tested
 pub mod Steps
 pub mod Answers
-pub mod Again
-pub mod Shared
-pub mod Elements

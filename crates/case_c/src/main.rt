@@ -4,12 +4,12 @@
 
 use bus::Range;
 use checker::Monitor;
-use libc::STDOUT_FILENO;
 use rules::{Config, Frame};
+use std::io;
 
 const SAMPLES: [u32; 6] = [8, 4, 10, 5, 2, 1];
 
-fn main() {
+fn main(rt: HostRuntime) -> io::Result<()> {
     let unused = Range { left: 0, right: 0 };
     let config = Config {
         kind: 1,
@@ -22,22 +22,18 @@ fn main() {
         severity: 0,
     };
     let mut monitor = Monitor { config, word: 0 };
-    io::write_all(STDOUT_FILENO, b"cycle row word\n");
+    println!(rt; "cycle row word")?;
     for t in 0..6 {
         let stepped = monitor.step(Frame {
             samples: [1, SAMPLES[t], 0, 0, 0, 0, 0, 0],
         });
         monitor = stepped.monitor;
-        write_line(t as u64, stepped.row, monitor.word);
+        write_line(&rt, t as u64, stepped.row, monitor.word)?;
     }
+    Ok(())
 }
 
 // One line: the three numbers in decimal.
-fn write_line(cycle: u64, row: u32, word: u64) {
-    io::print_decimal(STDOUT_FILENO, cycle);
-    io::write_all(STDOUT_FILENO, b" ");
-    io::print_decimal(STDOUT_FILENO, row as u64);
-    io::write_all(STDOUT_FILENO, b" ");
-    io::print_decimal(STDOUT_FILENO, word);
-    io::write_all(STDOUT_FILENO, b"\n");
+fn write_line(rt: &impl Print, cycle: u64, row: u32, word: u64) -> io::Result<()> {
+    println!(rt; "{cycle} {row} {word}")
 }

@@ -5,9 +5,11 @@ mod checking;
 
 use checking::print_check;
 use config::config_refusal;
-use marks_args::{ENABLE, RESET, Settings, is_given, read_settings};
+use marks_args::{ENABLE, RESET, Settings, has_argument, is_given, read_settings};
 use marks_dump::{count_frames, read_dump, take_as_one};
 use marks_words::{print_config_refusal, print_fault, print_refusal, print_usage};
+use std::io;
+use std::io::Read;
 
 // The bits of the reset word whose wires are not connected: bit 0 is reset_n, bit 1 enable. Kinds 0 to 6 do not read enable.
 fn taken_bits(s: Settings) -> u32 {
@@ -19,44 +21,50 @@ fn taken_bits(s: Settings) -> u32 {
 }
 
 // The dump is read, and where it is not refused its frames are checked.
-fn run_with(s: Settings, wires: &[u64; 258], frames: &mut [u32; 524288]) {
-    let dump = read_dump(wires, frames);
+fn run_with(
+    rt: &impl Print,
+    input: &mut impl Read,
+    s: Settings,
+    wires: &[u64; 258],
+    frames: &mut [u32; 524288],
+) -> io::Result<()> {
+    let dump = read_dump(input, wires, frames);
     let loaded = dump.loaded;
     if dump.failed {
-        report::text(b"standard input cannot be read\n");
-        return;
+        return report::text(rt, b"standard input cannot be read\n");
     }
     if loaded.refusal != 0 {
-        print_refusal(loaded.refusal, loaded.line, loaded.identifier);
-        return;
+        return print_refusal(rt, loaded.refusal, loaded.line, loaded.identifier);
     }
     let n = count_frames(loaded.frames);
     take_as_one(frames, taken_bits(s), n);
-    print_check(s, frames, n);
+    print_check(rt, s, frames, n)
 }
 
 // With as many frames as a trace can have.
-fn run(s: Settings, wires: &[u64; 258]) {
+fn run(
+    rt: &impl Print,
+    input: &mut impl Read,
+    s: Settings,
+    wires: &[u64; 258],
+) -> io::Result<()> {
     let mut frames = [0u32; 524288];
-    run_with(s, wires, &mut frames);
+    run_with(rt, input, s, wires, &mut frames)
 }
 
-fn main() {
-    if os::arg_count() < 2 {
-        print_usage();
-        return;
+fn main(rt: HostRuntime) -> io::Result<()> {
+    if !has_argument(&rt, 1) {
+        return print_usage(&rt);
     }
     let mut wires = [0u64; 258];
-    let s = read_settings(&mut wires);
+    let s = read_settings(&rt, &mut wires);
     if s.fault != 0 {
-        print_fault(s);
-        return;
+        return print_fault(&rt, s);
     }
     let config = s.config;
     let refused = config_refusal(config);
     if refused != 0 {
-        print_config_refusal(refused);
-        return;
+        return print_config_refusal(&rt, refused);
     }
-    run(s, &wires);
+    run(&rt, &mut rt.stdin(), s, &wires)
 }

@@ -1,9 +1,10 @@
 // One argument of the program, as a keyword, a number or a code.
-ghost use Rattle.std.specs.Prelude.{◌≡◌, ◌≤◌};
+ghost use Rattle.std.specs.Prelude.{◌≡◌, ◌≤◌, length};
 
 use crate::faults::{MISSING, NOT_CODE, NOT_NUMBER};
 use crate::text::{number_of, text_of};
 use dump_words::Text;
+use std::env::{Env, FillError};
 
 // A number or a code, or what is wrong with the argument: then the value is 0.
 #[derive(Clone, Copy)]
@@ -18,22 +19,41 @@ fn wrong(fault: u32) -> Value
     Value { fault, value: 0 }
 }
 
+// Whether there is an argument `i`; argument 0 is the program's name.
+pub fn has_argument(rt: &impl Env, i: usize) -> bool {
+    let mut space = [0u8; 1];
+    match rt.arg(i, &mut space) {
+        Err(FillError::NotPresent) => false,
+        _ => true,
+    }
+}
+
+// Puts the argument `i` at the start of the space, and answers its length: 0 where it is missing, or longer than the space.
+pub fn read_argument(rt: &impl Env, i: usize, space: &mut [u8]) -> usize
+    ensures { result ≤ length space.new }
+{
+    match rt.arg(i, space) {
+        Ok(n) => n,
+        Err(_) => 0,
+    }
+}
+
 // The argument as a keyword. An argument of more than 4,096 bytes is read as an empty one, which is no word of any option.
-pub fn text_at(i: usize) -> Text {
-    let mut space = io::buffer();
-    let n = os::arg(i, &mut space);
+pub fn text_at(rt: &impl Env, i: usize) -> Text {
+    let mut space = [0u8; 4096];
+    let n = read_argument(rt, i, &mut space);
     text_of(&space[..n])
 }
 
 // The argument as a decimal number of at most `most`.
-pub fn number_at(i: usize, most: u64) -> Value
+pub fn number_at(rt: &impl Env, i: usize, most: u64) -> Value
     ensures { result.value ≤ most }
 {
-    if os::arg_count() <= i {
+    if !has_argument(rt, i) {
         return wrong(MISSING);
     }
-    let mut space = io::buffer();
-    let length = os::arg(i, &mut space);
+    let mut space = [0u8; 4096];
+    let length = read_argument(rt, i, &mut space);
     let n = number_of(&space[..length]);
     if n.state != 1 {
         return wrong(NOT_NUMBER);
@@ -48,11 +68,11 @@ pub fn number_at(i: usize, most: u64) -> Value
 }
 
 // The argument as an identifier code: 1 to 8 bytes from 33 to 126.
-pub fn code_at(i: usize) -> Value {
-    if os::arg_count() <= i {
+pub fn code_at(rt: &impl Env, i: usize) -> Value {
+    if !has_argument(rt, i) {
         return wrong(MISSING);
     }
-    let t = text_at(i);
+    let t = text_at(rt, i);
     if t.length == 0 {
         return wrong(NOT_CODE);
     }

@@ -1,7 +1,7 @@
 // The arguments, option by option.
 ghost use Rattle.std.specs.Prelude.{◌≡◌, ◌≤◌, ◌<◌, ◌+◌, ◌-◌};
 
-use crate::argument::{code_at, number_at, text_at};
+use crate::argument::{code_at, has_argument, number_at, text_at};
 use crate::faults::{NO_CLOCK, NOT_OPTION, TOO_WIDE, TWICE};
 use crate::settings::{
     CLOCK, ENABLE, MIN, NO_OPTION, P, Q, R, RESET, SEVERITY, Settings, VALUE, faulty,
@@ -12,6 +12,7 @@ use crate::wires::{put_wire, put_wires};
 use bus::Range;
 use dump_words::Text;
 use rules::Config;
+use std::env::Env;
 
 // The option of a keyword.
 fn option_of(t: Text) -> u32
@@ -48,15 +49,15 @@ fn option_of(t: Text) -> u32
 }
 
 // The clock, reset_n or enable: a code and an index. The option is the entry of the table.
-fn wire_option(s: Settings, at: usize, option: u32, wires: &mut [u64; 258]) -> Settings
+fn wire_option(rt: &impl Env, s: Settings, at: usize, option: u32, wires: &mut [u64; 258]) -> Settings
     requires { (at ≤ 100) × (option < 3) }
     ensures { result.at ≤ at + 4 }
 {
-    let code = code_at(at + 1);
+    let code = code_at(rt, at + 1);
     if code.fault != 0 {
         return faulty(s, code.fault, at + 1);
     }
-    let index = number_at(at + 2, u64::MAX);
+    let index = number_at(rt, at + 2, u64::MAX);
     if index.fault != 0 {
         return faulty(s, index.fault, at + 2);
     }
@@ -126,19 +127,19 @@ fn port(
 }
 
 // P, Q or R: a code, and the indices of its left and right wire.
-fn port_option(s: Settings, at: usize, option: u32, wires: &mut [u64; 258]) -> Settings
+fn port_option(rt: &impl Env, s: Settings, at: usize, option: u32, wires: &mut [u64; 258]) -> Settings
     requires { (at ≤ 100) × (3 ≤ option) × (option < 6) }
     ensures { result.at ≤ at + 4 }
 {
-    let code = code_at(at + 1);
+    let code = code_at(rt, at + 1);
     if code.fault != 0 {
         return faulty(s, code.fault, at + 1);
     }
-    let left = number_at(at + 2, u64::MAX);
+    let left = number_at(rt, at + 2, u64::MAX);
     if left.fault != 0 {
         return faulty(s, left.fault, at + 2);
     }
-    let right = number_at(at + 3, u64::MAX);
+    let right = number_at(rt, at + 3, u64::MAX);
     if right.fault != 0 {
         return faulty(s, right.fault, at + 3);
     }
@@ -167,11 +168,11 @@ fn with_number(c: Config, option: u32, n: u64) -> Config
     d
 }
 
-fn number_option(s: Settings, at: usize, option: u32) -> Settings
+fn number_option(rt: &impl Env, s: Settings, at: usize, option: u32) -> Settings
     requires { (at ≤ 100) × (option < 9) }
     ensures { result.at ≤ at + 4 }
 {
-    let n = number_at(at + 1, 4294967295);
+    let n = number_at(rt, at + 1, 4294967295);
     if n.fault != 0 {
         return faulty(s, n.fault, at + 1);
     }
@@ -180,11 +181,11 @@ fn number_option(s: Settings, at: usize, option: u32) -> Settings
 }
 
 // The option whose keyword is the argument `at`.
-fn next_option(s: Settings, at: usize, wires: &mut [u64; 258]) -> Settings
+fn next_option(rt: &impl Env, s: Settings, at: usize, wires: &mut [u64; 258]) -> Settings
     requires { at ≤ 100 }
     ensures { result.at ≤ at + 4 }
 {
-    let option = option_of(text_at(at));
+    let option = option_of(text_at(rt, at));
     if option == NO_OPTION {
         return faulty(s, NOT_OPTION, at);
     }
@@ -192,23 +193,23 @@ fn next_option(s: Settings, at: usize, wires: &mut [u64; 258]) -> Settings
         return faulty(s, TWICE, at);
     }
     if option < P {
-        return wire_option(s, at, option, wires);
+        return wire_option(rt, s, at, option, wires);
     }
     if option < MIN {
-        return port_option(s, at, option, wires);
+        return port_option(rt, s, at, option, wires);
     }
-    number_option(s, at, option)
+    number_option(rt, s, at, option)
 }
 
 // The first two arguments: the kind and n.
-fn checker_settings() -> Settings
+fn checker_settings(rt: &impl Env) -> Settings
     ensures { result.at ≤ 3 }
 {
-    let kind = number_at(1, 4294967295);
+    let kind = number_at(rt, 1, 4294967295);
     if kind.fault != 0 {
         return faulty(first_settings(0, 0), kind.fault, 1);
     }
-    let n = number_at(2, 4294967295);
+    let n = number_at(rt, 2, 4294967295);
     if n.fault != 0 {
         return faulty(first_settings(0, 0), n.fault, 2);
     }
@@ -224,18 +225,18 @@ fn last_settings(s: Settings) -> Settings {
 }
 
 // All arguments: the settings, and the table of connections. There are nine options and none is taken twice, so the tenth turn ends the arguments or refuses.
-pub fn read_settings(wires: &mut [u64; 258]) -> Settings {
-    let mut s = checker_settings();
+pub fn read_settings(rt: &impl Env, wires: &mut [u64; 258]) -> Settings {
+    let mut s = checker_settings(rt);
     let mut turn: u32 = 0;
     while turn < 10 {
         if s.fault != 0 {
             return s;
         }
         let at = s.at;
-        if os::arg_count() <= at {
+        if !has_argument(rt, at) {
             return last_settings(s);
         }
-        s = next_option(s, at, wires);
+        s = next_option(rt, s, at, wires);
         turn += 1;
     }
     s

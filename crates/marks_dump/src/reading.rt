@@ -2,7 +2,7 @@
 use dump_load::Loaded;
 use dump_pieces::{end, piece};
 use dump_state::{State, begin};
-use libc::STDIN_FILENO;
+use std::io::Read;
 
 // A reader behind a block: whether there is more to read, and whether the system refused to read.
 #[derive(Clone, Copy)]
@@ -20,24 +20,25 @@ pub struct Dump {
 }
 
 // One block of at most 65,536 bytes. Nothing is read behind a refusal.
-fn read_block(state: State, frames: &mut [u32; 524288]) -> Block {
-    let mut space = io::large_buffer();
-    let got = libc::read(STDIN_FILENO, &mut space);
-    if got < 0 {
-        return Block {
-            more: false,
-            failed: true,
-            state,
-        };
-    }
-    if got == 0 {
+fn read_block(input: &mut impl Read, state: State, frames: &mut [u32; 524288]) -> Block {
+    let mut space = [0u8; 65536];
+    let n = match input.read(&mut space) {
+        Ok(n) => n,
+        Err(_) => {
+            return Block {
+                more: false,
+                failed: true,
+                state,
+            };
+        }
+    };
+    if n == 0 {
         return Block {
             more: false,
             failed: false,
             state,
         };
     }
-    let n = io::count(got, &space);
     let read = piece(state, &space[..n], frames);
     let answer = read.answer;
     let state = read.state;
@@ -49,7 +50,7 @@ fn read_block(state: State, frames: &mut [u32; 524288]) -> Block {
 }
 
 // All blocks. A proved loop has to end, and nothing says that the input does, so the turns are counted down from a number that no run uses up.
-fn read_blocks(state: State, frames: &mut [u32; 524288]) -> Block {
+fn read_blocks(input: &mut impl Read, state: State, frames: &mut [u32; 524288]) -> Block {
     let mut b = Block {
         more: true,
         failed: false,
@@ -61,15 +62,19 @@ fn read_blocks(state: State, frames: &mut [u32; 524288]) -> Block {
             return b;
         }
         let state = b.state;
-        b = read_block(state, frames);
+        b = read_block(input, state, frames);
         turns -= 1;
     }
     b
 }
 
 // What was kept of the blocks before is all that is held: a dump of any length takes the same memory. Where a block was refused the end gives that refusal again.
-pub fn read_dump(wires: &[u64; 258], frames: &mut [u32; 524288]) -> Dump {
-    let b = read_blocks(begin(wires), frames);
+pub fn read_dump(
+    input: &mut impl Read,
+    wires: &[u64; 258],
+    frames: &mut [u32; 524288],
+) -> Dump {
+    let b = read_blocks(input, begin(wires), frames);
     let state = b.state;
     let read = end(state, frames);
     let loaded = read.answer;

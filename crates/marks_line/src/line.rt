@@ -1,8 +1,7 @@
 // Bytes of a line.
-ghost use Rattle.std.specs.Prelude.{◌≡◌, length};
-ghost use Rattle.io.specs.Counts.{IsPrefixLen};
+ghost use Rattle.std.specs.Prelude.{◌≡◌, ◌≤◌, length, take};
 
-use libc::STDOUT_FILENO;
+use std::io;
 
 pub fn new_line() -> [u8; 256]
     ensures { 256 ≡ length result }
@@ -42,18 +41,18 @@ pub fn put_spaces(line: &mut [u8; 256], at: usize, count: usize) -> usize {
 
 // How much of the line is used: a line that is full has no place behind it.
 fn used(line: &[u8], at: usize) -> usize
-    ensures { IsPrefixLen result line.now }
+    ensures { (result ≤ length line.now) × (result ≡ length (take result line.now)) }
 {
     if at < line.len() { at } else { line.len() }
 }
 
-fn write_line(line: &[u8], at: usize) {
+fn write_line(rt: &impl Print, line: &[u8], at: usize) -> io::Result<()> {
     let n = used(line, at);
-    io::write_all(STDOUT_FILENO, &line[..n]);
-    io::write_all(STDOUT_FILENO, b"\n");
+    rt.write_all(&line[..n])?;
+    rt.write_all(b"\n")
 }
 
 // Writes the line, and the end of a line.
-pub fn end_line(line: &[u8; 256], at: usize) {
-    write_line(line, at);
+pub fn end_line(rt: &impl Print, line: &[u8; 256], at: usize) -> io::Result<()> {
+    write_line(rt, line, at)
 }

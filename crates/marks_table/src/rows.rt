@@ -7,6 +7,7 @@ use bus::Range;
 use marks_args::{ENABLE, P, Q, R, RESET, Settings, is_given};
 use marks_line::{end_line, new_line, put, put_bits, put_right, put_spaces, put_wire};
 use rules::{Frame, STOPPED};
+use std::io;
 use trace::frame_at;
 
 // The open word: kind 8 keeps its reference in it, and no other kind has a word of more than 10 digits but the one that says stopped.
@@ -53,14 +54,14 @@ fn put_port_names(line: &mut [u8; 256], begin: usize, s: Settings) -> usize {
     at
 }
 
-fn print_names(s: Settings) {
+fn print_names(rt: &impl Print, s: Settings) -> io::Result<()> {
     let c = s.config;
     let mut line = new_line();
     let wires = put_wire_names(&mut line, s);
     let ports = put_port_names(&mut line, wires, s);
     let word = put_spaces(&mut line, ports, word_width(c.kind) - 9);
     let end = put(&mut line, word, b"open word  marks");
-    end_line(&line, end);
+    end_line(rt, &line, end)
 }
 
 // reset_n and enable, where they are connected.
@@ -112,7 +113,7 @@ fn put_word(line: &mut [u8; 256], at: usize, word: u64, width: usize) -> usize
     put_right(line, at, word, width)
 }
 
-fn print_row(s: Settings, t: usize, f: Frame, row: u32, word: u64) {
+fn print_row(rt: &impl Print, s: Settings, t: usize, f: Frame, row: u32, word: u64) -> io::Result<()> {
     let c = s.config;
     let mut line = new_line();
     let cycle = put_right(&mut line, 0, t as u64, 5);
@@ -122,17 +123,18 @@ fn print_row(s: Settings, t: usize, f: Frame, row: u32, word: u64) {
     let words = put_word(&mut line, ports, word, word_width(c.kind));
     let marks = put_spaces(&mut line, words, 2);
     let end = put_marks(&mut line, marks, row);
-    end_line(&line, end);
+    end_line(rt, &line, end)
 }
 
 // All cycles of a trace, with their rows and words.
-pub fn print_rows(s: Settings, trace: &[u32], rows: &[u32], words: &[u64])
+pub fn print_rows(rt: &impl Print, s: Settings, trace: &[u32], rows: &[u32], words: &[u64]) -> io::Result<()>
     requires { (length rows.now ≡ frames trace.now) × (length words.now ≡ frames trace.now) }
 {
-    print_names(s);
+    print_names(rt, s)?;
     let mut t = 0;
     while t < rows.len() {
-        print_row(s, t, frame_at(trace, t), rows[t], words[t]);
+        print_row(rt, s, t, frame_at(trace, t), rows[t], words[t])?;
         t += 1;
     }
+    Ok(())
 }

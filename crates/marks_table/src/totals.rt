@@ -2,6 +2,7 @@
 use crate::names::put_name;
 use counts::totals;
 use marks_line::{end_line, new_line, put, put_number};
+use std::io;
 
 // A mark and how many cycles have it.
 fn put_total(line: &mut [u8; 256], at: usize, mark: u32, count: u32) -> usize {
@@ -10,7 +11,7 @@ fn put_total(line: &mut [u8; 256], at: usize, mark: u32, count: u32) -> usize {
     put_number(line, space, count as u64)
 }
 
-pub fn print_totals(rows: &[u32]) {
+pub fn print_totals(rt: &impl Print, rows: &[u32]) -> io::Result<()> {
     let r = totals(rows);
     let counts = r.counts;
     let mut line = new_line();
@@ -26,5 +27,5 @@ pub fn print_totals(rows: &[u32]) {
     at = put_total(&mut line, at, 16, counts[4]);
     at = put(&mut line, at, b", ");
     at = put_total(&mut line, at, 32, counts[5]);
-    end_line(&line, at);
+    end_line(rt, &line, at)
 }

@@ -94,7 +94,7 @@ pub extern "C" fn selvedgeon_edit_and_take_back(
     b: u64,
     samples: &mut [u32],
 ) -> BothResults
-    ensures { BackAnswer (config_of kind n p_left p_right q_left q_right r_left r_right min value severity) a b samples.old samples.new (record { trace = trace.entry.now; rows = rows.old; words = words.old }) (record { trace = trace.exit.now; rows = rows.new; words = words.new }) result.edit result.back }
+    ensures { BackAnswer (config_of kind n p_left p_right q_left q_right r_left r_right min value severity) a b samples.old samples.new (record { trace = trace.old; rows = rows.old; words = words.old }) (record { trace = trace.new; rows = rows.new; words = words.new }) result.edit result.back }
 {
     let config = config_of(
         kind, n, p_left, p_right, q_left, q_right, r_left, r_right, min, value, severity,

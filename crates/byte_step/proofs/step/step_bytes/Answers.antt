@@ -14,24 +14,21 @@ overflow_mul-result c = omega (arith, c.config_refusal-refused.ensures, refusal-
 pub returns-then-refused-ne0 : goal.returns-then-refused-ne0
 returns-then-refused-ne0 c = config-refused c.config_refusal-refused.ensures c.if-refused-ne0.true
 
--- the configuration is good
-good : (d : goal.Else-refused-ne0) → Good d.args.config
-good d = sym d.config_refusal-refused.ensures ∙ d.if-refused-ne0.false
-
 pub returns-then-word-ne8 : goal.returns-then-word-ne8
-returns-then-word-ne8 c = length-refused (good c.before.before) c.if-word-ne8.true
+returns-then-word-ne8 c =
+    let good : Good c.args.config = sym c.config_refusal-refused.ensures ∙ c.if-refused-ne0.false in
+    length-refused good c.if-word-ne8.true
 
 pub overflow_mul-result-then-stepped-ne0 : goal.overflow_mul-result-then-stepped-ne0
 overflow_mul-result-then-stepped-ne0 c =
-    let s = c.before in
-    omega (arith, c.step-stepped.ensures.refusal_is, word-refusal-low s.args.config c.load.result)
+    omega (arith, c.step-stepped.ensures.refusal_is, word-refusal-low c.args.config c.load.result)
 
 pub returns-then-stepped-ne0 : goal.returns-then-stepped-ne0
 returns-then-stepped-ne0 c =
-    let d = c.before in
-    word-refused (good d.before) d.if-word-ne8.false d.load.ensures d.step-stepped.ensures c.if-stepped-ne0.true
+    let good : Good c.args.config = sym c.config_refusal-refused.ensures ∙ c.if-refused-ne0.false in
+    word-refused good c.if-word-ne8.false c.load.ensures c.step-stepped.ensures c.if-stepped-ne0.true
 
 pub returns : goal.returns
 returns c =
-    let d = c.before.before in
-    taken (good d.before) d.if-word-ne8.false d.load.ensures d.step-stepped.ensures c.if-stepped-ne0.false c.store.ensures
+    let good : Good c.args.config = sym c.config_refusal-refused.ensures ∙ c.if-refused-ne0.false in
+    taken good c.if-word-ne8.false c.load.ensures c.step-stepped.ensures c.if-stepped-ne0.false c.store.ensures

@@ -10,31 +10,26 @@ use Rattle.lent_changes.proofs.changes.recheck_into.Goals as goal
 
 pub returns-then-refused-eq0 : goal.returns-then-refused-eq0
 returns-then-refused-eq0 c =
-    let d = c.before.before in
-    rw (c.packed.ensures.0, c.packed.ensures.1) (five-due d.if-answer.true (d.lengths_refusal-refused.ensures _ _ _ refl refl refl) c.if-refused-eq0.true)
+    rw (c.packed.ensures.0, c.packed.ensures.1) (five-due c.if-answer.true (c.lengths_refusal-refused.ensures _ _ _ refl refl refl) c.if-refused-eq0.true)
 
 pub returns-else-refused-eq0 : goal.returns-else-refused-eq0
 returns-else-refused-eq0 c =
-    let d = c.before.before in
-    rw (c.packed-else-refused-eq0.ensures.0, c.packed-else-refused-eq0.ensures.1) (earlier-due d.if-answer.true (d.lengths_refusal-refused.ensures _ _ _ refl refl refl) c.if-refused-eq0.false)
+    rw (c.packed-else-refused-eq0.ensures.0, c.packed-else-refused-eq0.ensures.1) (earlier-due c.if-answer.true (c.lengths_refusal-refused.ensures _ _ _ refl refl refl) c.if-refused-eq0.false)
 
 pub packed-requires-then-result-ne0 : goal.packed-requires-then-result-ne0
 packed-requires-then-result-ne0 c = cycle-low c.recheck-result.ensures
 
 pub returns-then-result-ne0 : goal.returns-then-result-ne0
 returns-then-result-ne0 c =
-    let d = c.before.before in
-    rw (c.packed-then-result-ne0.ensures.0, c.packed-then-result-ne0.ensures.1) (refused d.recheck-result.ensures d.if-answer.false c.if-result-ne0.true)
+    rw (c.packed-then-result-ne0.ensures.0, c.packed-then-result-ne0.ensures.1) (refused c.recheck-result.ensures c.if-answer.false c.if-result-ne0.true)
 
 pub overflow_cast-result : goal.overflow_cast-result
 overflow_cast-result c =
-    let d = c.before.before in
-    let low = end_low d.recheck-result.ensures d.if-result-ne0.false in
+    let low = end_low c.recheck-result.ensures c.if-result-ne0.false in
     record { sfits = omega (arith, low) }
 
 pub returns : goal.returns
 returns c =
-    let d = c.before.before in
-    let called = d.before in
-    stored called.recheck-result.ensures called.if-answer.false d.if-result-ne0.false
-    (c.store_changes.ensures ∙ ap (λ (z : ℤ). z ∷ called.recheck-result.result.changes) (to_z_pos w32 (overflow_cast-result c.before.before).sfits))
+    let low = end_low c.recheck-result.ensures c.if-result-ne0.false in
+    stored c.recheck-result.ensures c.if-answer.false c.if-result-ne0.false
+    (c.store_changes.ensures ∙ ap (λ (z : ℤ). z ∷ c.recheck-result.result.changes) (to_z_pos w32 (omega (arith, low))))

@@ -10,5 +10,4 @@ returns-then-result-ne0 c = too_many c.if-counts-ne-MARKS.false c.totals-result.
 
 pub returns : goal.returns
 returns c =
-    let d = c.before.before in
-    stored d.if-counts-ne-MARKS.false d.totals-result.ensures d.if-result-ne0.false c.store_counts.ensures
+    stored c.if-counts-ne-MARKS.false c.totals-result.ensures c.if-result-ne0.false c.store_counts.ensures

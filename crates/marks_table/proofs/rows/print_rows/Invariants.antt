@@ -4,7 +4,7 @@ use lib.ListN.{length}
 use Rattle.marks_table.proofs.rows.print_rows.Given as goal
 
 abbrev pub invariant-loop-t : goal.invariant-loop-t
-invariant-loop-t l = l.t ≤ length l.rows
+invariant-loop-t g l = l.t ≤ length l.rows
 
 abbrev pub decreases-loop-t : goal.decreases-loop-t
-decreases-loop-t l = length l.rows - l.t
+decreases-loop-t g l = length l.rows - l.t

@@ -17,7 +17,7 @@ pub overflow_mul-result : goal.overflow_mul-result
 overflow_mul-result c = let a = c.args in omega (arith, c.config_refusal-refused.ensures, refusal-low a.c)
 
 pub overflow_add-result : goal.overflow_add-result
-overflow_add-result c = let s = c.before.before in omega (arith, c.config_refusal-refused.ensures, refusal-low s.args.c)
+overflow_add-result c = omega (arith, c.config_refusal-refused.ensures, refusal-low c.args.c)
 
 pub returns-then-refused-ne0 : goal.returns-then-refused-ne0
 returns-then-refused-ne0 c =
@@ -29,17 +29,15 @@ returns-then-refused-ne0 c =
 
 pub returns-then-is_possible : goal.returns-then-is_possible
 returns-then-is_possible c =
-    let t = c.before.before in
-    let a = t.args in
-    let good = sym t.config_refusal-refused.ensures ∙ t.if-refused-ne0.false in
+    let a = c.args in
+    let good = sym c.config_refusal-refused.ensures ∙ c.if-refused-ne0.false in
     sym
-    (tested-good a.answer a.c _ a.k t.if-answer-ne0.false (word-decides a.c _ true good (sym c.is_possible.ensures ∙ c.if-is_possible.true)))
+    (tested-good a.answer a.c _ a.k c.if-answer-ne0.false (word-decides a.c _ true good (sym c.is_possible.ensures ∙ c.if-is_possible.true)))
 
 pub returns-else-is_possible : goal.returns-else-is_possible
 returns-else-is_possible c =
-    let t = c.before.before in
-    let a = t.args in
+    let a = c.args in
     let w : ℕ = get_or a.words.now a.k 0 in
-    let good = sym t.config_refusal-refused.ensures ∙ t.if-refused-ne0.false in
+    let good = sym c.config_refusal-refused.ensures ∙ c.if-refused-ne0.false in
     let seven : word_refusal a.c w ≡ 7 = word-decides a.c w false good (sym c.is_possible.ensures ∙ c.if-is_possible.false) in
-    ap (λ (x : ℕ). 256 * x + a.k) (sym seven) ∙ sym (tested-bad a.answer a.c w a.k t.if-answer-ne0.false (λ z. omega (arith, seven, z)))
+    ap (λ (x : ℕ). 256 * x + a.k) (sym seven) ∙ sym (tested-bad a.answer a.c w a.k c.if-answer-ne0.false (λ z. omega (arith, seven, z)))

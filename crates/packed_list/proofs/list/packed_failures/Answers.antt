@@ -12,4 +12,4 @@ returns c =
     let a = c.args in
     let called = c.failures-result in
     unpacked 4294967296 called.result.refusal called.result.count (omega (arith, called.ensures.few))
-    (ListAnswer a.config a.trace.now a.list.now called.new.1.1.0) called.ensures
+    (ListAnswer a.config a.trace.now a.list.now called.new.list) called.ensures

@@ -19,42 +19,40 @@ abbrev bits : ℤ → ℤ
 bits z = to_z w32 (of_z w32 z)
 
 -- the numbers with the end in front, where the loop begins
-abbrev first : goal.Start → List ℤ
-first s = set s.args.answer.now 0 (bits s.args.end)
+abbrev first : List ℤ → ℤ → List ℤ
+first answer end = set answer 0 (bits end)
 
 pub loop-i-init : goal.loop-i-init
-loop-i-init c = (paste-zero (first c) 1 c.args.t3, omega arith, refl)
+loop-i-init c = (paste-zero (first c.args.answer.now c.args.end) 1 c.args.changes, omega arith, refl)
 
 pub bounds-changes-i : goal.bounds-changes-i
 bounds-changes-i c = c.loop-i-test.true
 
 -- the numbers are one more than the marks
-due : (s : goal.Start) → length (first s) ≡ 1 + marks
-due s = length-set s.args.answer.now 0 (bits s.args.end) ∙ s.requires.0
+due : (answer : List ℤ) (end : ℤ) → length answer ≡ 1 + marks → length (first answer end) ≡ 1 + marks
+due answer end h = length-set answer 0 (bits end) ∙ h
 
 pub bounds-answer-i : goal.bounds-answer-i
-bounds-answer-i c = omega (arith, due c.before)
+bounds-answer-i c = omega (arith, due c.args.answer.now c.args.end c.requires.0)
 
 pub loop-i-preserved : goal.loop-i-preserved
 loop-i-preserved c =
-    let s = c.before in
     let at = c.loop-i in
-    let change = get_or s.args.t3 at.i (pos 0) in
-    let low : 1 + at.i < length (first s) = omega (arith, due s) in
-    let few : at.i < length s.args.t3 = omega (arith, s.requires.1) in (
-      rw (to_z-of_z {z = change} (record { sfits = c.answer-1.given })) (stored_more (first s) 1 s.args.t3 at.i (1 + at.i) (pos 0) refl low few at.invariant.0),
+    let change = get_or c.args.changes at.i (pos 0) in
+    let low : 1 + at.i < length (first c.args.answer.now c.args.end) = omega (arith, due c.args.answer.now c.args.end c.requires.0) in
+    let few : at.i < length c.args.changes = omega (arith, c.requires.1) in (
+      rw (to_z-of_z {z = change} (record { sfits = c.answer-1.given })) (stored_more (first c.args.answer.now c.args.end) 1 c.args.changes at.i (1 + at.i) (pos 0) refl low few at.invariant.0),
       omega arith,
       length-set at.answer (1 + at.i) (bits change) ∙ at.invariant.2,
     )
 
 pub shape_of-answer : goal.shape_of-answer
-shape_of-answer c = let s = c.before in c.loop-i.invariant.2 ∙ length-set s.args.answer.now 0 (bits s.args.end)
+shape_of-answer c = c.loop-i.invariant.2 ∙ length-set c.args.answer.now 0 (bits c.args.end)
 
 pub returns : goal.returns
 returns c =
-    let s = c.before in
     let end : c.loop-i.i ≡ marks = omega arith in
-    let some : 0 < length s.args.answer.now = omega arith in
-    stored-all (first s) 1 s.args.t3 marks (due s) s.requires.1 (rw end at c.loop-i.invariant.0)
-    ∙ ap (λ (l : List ℤ). l ++ s.args.t3) (take-suc-set s.args.answer.now 0 (bits s.args.end) some)
-    ∙ ap (λ (z : ℤ). z ∷ s.args.t3) (to_z-of_z s.ranges.end)
+    let some : 0 < length c.args.answer.now = omega arith in
+    stored-all (first c.args.answer.now c.args.end) 1 c.args.changes marks (due c.args.answer.now c.args.end c.requires.0) c.requires.1 (rw end at c.loop-i.invariant.0)
+    ∙ ap (λ (l : List ℤ). l ++ c.args.changes) (take-suc-set c.args.answer.now 0 (bits c.args.end) some)
+    ∙ ap (λ (z : ℤ). z ∷ c.args.changes) (to_z-of_z c.ranges.end)

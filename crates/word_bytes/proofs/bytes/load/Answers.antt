@@ -20,16 +20,20 @@ loop-i-init c =
     (sym (ap word_of none), omega arith, lit< tt)
 
 -- before the last byte the word has at most seven
-small : (c : goal.In-loop-i) → c.loop-i.word < 256 ^ 7
-small c =
-    let l : 8 - c.loop-i.i ≤ 7 = omega arith in
-    lt_of_lt_of_le c.loop-i.invariant.2 (pow-le-pow_right (lit< tt) l)
+small : (i word : ℕ) → 0 < i → word < 256 ^ (8 - i) → word < 256 ^ 7
+small i word pos h =
+    let l : 8 - i ≤ 7 = omega arith in
+    lt_of_lt_of_le h (pow-le-pow_right (lit< tt) l)
 
 pub overflow_mul-word : goal.overflow_mul-word
-overflow_mul-word c = omega (arith, small c)
+overflow_mul-word c =
+    let pos : 0 < c.loop-i.i = omega arith in
+    omega (arith, small c.loop-i.i c.loop-i.word pos c.loop-i.invariant.2)
 
 pub overflow_add-word : goal.overflow_add-word
-overflow_add-word c = omega (arith, small c.before.before)
+overflow_add-word c =
+    let pos : 0 < c.loop-i.i = omega arith in
+    omega (arith, small c.loop-i.i c.loop-i.word pos c.loop-i.invariant.2)
 
 pub loop-i-preserved : goal.loop-i-preserved
 loop-i-preserved c =

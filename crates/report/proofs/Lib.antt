@@ -1,2 +1,0 @@
--- Laws of signed numbers for writing them.
-pub mod Negative
