@@ -1,6 +1,6 @@
 -- `passes::count::count_all` meets its contract. The loop's invariant: the word is the one before cycle t, and the entries of the cycles before t are counted.
 -- Each turn adds those of a block. The measure is what is left of the trace. Assumes nothing.
-use Prim.Native.Nat.{◌-◌, zero-le}
+use Prim.Native.Nat.{zero-le}
 use mathlib.Core.Path.{◌≡◌, refl}
 use Rattle.trace.specs.Traces.{frames, frame_at}
 use Rattle.blocks.proofs.Stretches.{counted_none, counted-more}
