@@ -55,12 +55,7 @@ fn print_arrays(
 }
 
 // The check of the first n frames. Of the arrays only their lengths count, so they are lent by their types, which is quicker to prove.
-pub fn print_check(
-    rt: &impl Print,
-    s: Settings,
-    trace: &[u32; 524288],
-    n: usize,
-) -> io::Result<()>
+pub fn print_check(rt: &impl Print, s: Settings, trace: &[u32; 524288], n: usize) -> io::Result<()>
     requires { n ≤ 65536 }
 {
     let mut rows = [0u32; 65536];

@@ -42,12 +42,7 @@ fn run_with(
 }
 
 // With as many frames as a trace can have.
-fn run(
-    rt: &impl Print,
-    input: &mut impl Read,
-    s: Settings,
-    wires: &[u64; 258],
-) -> io::Result<()> {
+fn run(rt: &impl Print, input: &mut impl Read, s: Settings, wires: &[u64; 258]) -> io::Result<()> {
     let mut frames = [0u32; 524288];
     run_with(rt, input, s, wires, &mut frames)
 }

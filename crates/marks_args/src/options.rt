@@ -49,7 +49,13 @@ fn option_of(t: Text) -> u32
 }
 
 // The clock, reset_n or enable: a code and an index. The option is the entry of the table.
-fn wire_option(rt: &impl Env, s: Settings, at: usize, option: u32, wires: &mut [u64; 258]) -> Settings
+fn wire_option(
+    rt: &impl Env,
+    s: Settings,
+    at: usize,
+    option: u32,
+    wires: &mut [u64; 258],
+) -> Settings
     requires { (at ≤ 100) × (option < 3) }
     ensures { result.at ≤ at + 4 }
 {
@@ -127,7 +133,13 @@ fn port(
 }
 
 // P, Q or R: a code, and the indices of its left and right wire.
-fn port_option(rt: &impl Env, s: Settings, at: usize, option: u32, wires: &mut [u64; 258]) -> Settings
+fn port_option(
+    rt: &impl Env,
+    s: Settings,
+    at: usize,
+    option: u32,
+    wires: &mut [u64; 258],
+) -> Settings
     requires { (at ≤ 100) × (3 ≤ option) × (option < 6) }
     ensures { result.at ≤ at + 4 }
 {

@@ -69,11 +69,7 @@ fn read_blocks(input: &mut impl Read, state: State, frames: &mut [u32; 524288]) 
 }
 
 // What was kept of the blocks before is all that is held: a dump of any length takes the same memory. Where a block was refused the end gives that refusal again.
-pub fn read_dump(
-    input: &mut impl Read,
-    wires: &[u64; 258],
-    frames: &mut [u32; 524288],
-) -> Dump {
+pub fn read_dump(input: &mut impl Read, wires: &[u64; 258], frames: &mut [u32; 524288]) -> Dump {
     let b = read_blocks(input, begin(wires), frames);
     let state = b.state;
     let read = end(state, frames);

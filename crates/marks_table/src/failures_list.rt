@@ -34,7 +34,10 @@ fn print_entries(rt: &impl Print, list: &[u32], count: usize) -> io::Result<()> 
 fn list_failures(rt: &impl Print, c: Config, trace: &[u32], list: &mut [u32]) -> io::Result<()> {
     let r = failures(c, trace, list);
     if r.refusal == 8 {
-        return text(rt, b"the list of failures has more than 131,072 entries and is left out\n");
+        return text(
+            rt,
+            b"the list of failures has more than 131,072 entries and is left out\n",
+        );
     }
     if r.count == 0 {
         return text(rt, b"no failures\n");
@@ -42,7 +45,12 @@ fn list_failures(rt: &impl Print, c: Config, trace: &[u32], list: &mut [u32]) ->
     print_entries(rt, list, r.count)
 }
 
-fn list_in_array(rt: &impl Print, c: Config, trace: &[u32], list: &mut [u32; 393216]) -> io::Result<()> {
+fn list_in_array(
+    rt: &impl Print,
+    c: Config,
+    trace: &[u32],
+    list: &mut [u32; 393216],
+) -> io::Result<()> {
     list_failures(rt, c, trace, list)
 }
 

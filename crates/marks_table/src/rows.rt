@@ -113,7 +113,14 @@ fn put_word(line: &mut [u8; 256], at: usize, word: u64, width: usize) -> usize
     put_right(line, at, word, width)
 }
 
-fn print_row(rt: &impl Print, s: Settings, t: usize, f: Frame, row: u32, word: u64) -> io::Result<()> {
+fn print_row(
+    rt: &impl Print,
+    s: Settings,
+    t: usize,
+    f: Frame,
+    row: u32,
+    word: u64,
+) -> io::Result<()> {
     let c = s.config;
     let mut line = new_line();
     let cycle = put_right(&mut line, 0, t as u64, 5);
@@ -127,7 +134,13 @@ fn print_row(rt: &impl Print, s: Settings, t: usize, f: Frame, row: u32, word: u
 }
 
 // All cycles of a trace, with their rows and words.
-pub fn print_rows(rt: &impl Print, s: Settings, trace: &[u32], rows: &[u32], words: &[u64]) -> io::Result<()>
+pub fn print_rows(
+    rt: &impl Print,
+    s: Settings,
+    trace: &[u32],
+    rows: &[u32],
+    words: &[u64],
+) -> io::Result<()>
     requires { (length rows.now ≡ frames trace.now) × (length words.now ≡ frames trace.now) }
 {
     print_names(rt, s)?;

@@ -19,7 +19,10 @@ fn print_reason(rt: &impl Print, refusal: u32, identifier: u64) -> io::Result<()
             b"more than 1,024 $var commands, a code of more than 8 characters, or a width above 4,096",
         )
     } else if refusal == 13 {
-        text(rt, b"the clock or a connected wire is not declared, or has no such index")
+        text(
+            rt,
+            b"the clock or a connected wire is not declared, or has no such index",
+        )
     } else if refusal == 14 {
         text(rt, b"a time stamp goes back")
     } else {
@@ -58,6 +61,9 @@ pub fn print_config_refusal(rt: &impl Print, refusal: u32) -> io::Result<()> {
     } else if refusal == 2 {
         text(rt, b": n, min or the severity is outside its limits\n")
     } else {
-        text(rt, b": a port or the expected value does not fit the kind\n")
+        text(
+            rt,
+            b": a port or the expected value does not fit the kind\n",
+        )
     }
 }
