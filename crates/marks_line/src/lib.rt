@@ -2,10 +2,10 @@
 // such place. What does not fit is left out.
 #![tactic(auto)]
 
-mod bits;
 mod line;
 mod number;
+mod wires;
 
-pub use bits::{put_bits, put_wire};
 pub use line::{end_line, new_line, put, put_spaces};
 pub use number::{put_number, put_right};
+pub use wires::{put_bits, put_wire};

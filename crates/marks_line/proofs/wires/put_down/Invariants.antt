@@ -1,6 +1,6 @@
--- `marks_line::bits::put_down` is safe and ends: the wire falls to the right end. Assumes nothing.
+-- `marks_line::wires::put_down` is safe and ends: the wire falls to the right end. Assumes nothing.
 use Prim.Native.Nat.{◌-◌}
-use Rattle.marks_line.proofs.bits.put_down.Given as goal
+use Rattle.marks_line.proofs.wires.put_down.Given as goal
 
 abbrev pub invariant-loop-wire : goal.invariant-loop-wire
 invariant-loop-wire l = Unit {0}

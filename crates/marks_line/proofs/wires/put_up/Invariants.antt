@@ -1,6 +1,6 @@
--- `marks_line::bits::put_up` is safe and ends: the wire rises to the right end. Assumes nothing.
+-- `marks_line::wires::put_up` is safe and ends: the wire rises to the right end. Assumes nothing.
 use Prim.Native.Nat.{◌-◌}
-use Rattle.marks_line.proofs.bits.put_up.Given as goal
+use Rattle.marks_line.proofs.wires.put_up.Given as goal
 
 abbrev pub invariant-loop-wire : goal.invariant-loop-wire
 invariant-loop-wire l = Unit {0}
