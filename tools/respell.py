@@ -10,6 +10,7 @@ lemma says, as in `length-insert`.
 
 It ends with an error, and changes nothing, if a new name stands already in some file or two names fall together."""
 import glob
+import os
 import re
 import sys
 
@@ -115,36 +116,16 @@ def turn_dashes(text, table, mark):
     return "\n".join(out)
 
 
-def drop_dashes(antt, rt, edits):
-    table = declared(f for f in antt if "/specs/" in f)
+def standing_words(files, text_of):
+    """Each word of what text_of leaves of a file, without comments, paths and fields, which are no names of definitions, and a file that has it."""
     standing = {}
-    for f in antt:
-        for word in set(WORD.findall(PATH.sub("", COMMENT.sub("", DASHED.sub("", open(f).read()))))):
+    for f in files:
+        for word in set(WORD.findall(PATH.sub("", COMMENT.sub("", text_of(open(f).read()))))):
             standing.setdefault(word, f)
-    bad = [f"{a} -> {b}: stands in {standing[b]}" for a, b in table.items() if b in standing]
-    if bad:
-        print("\n".join(sorted(bad)))
-        sys.exit(1)
-    count = 0
-    for f in antt + rt + edits:
-        text = open(f).read()
-        new = turn_dashes(text, table, "--" if f.endswith(".antt") else "//" if f.endswith(".rt") else "")
-        if new != text:
-            open(f, "w").write(new)
-            count += 1
-    print(f"{len(table)} names without dashes, {count} files")
+    return standing
 
 
-def main():
-    antt = sorted(glob.glob("crates/*/specs/**/*.antt", recursive=True) + glob.glob("crates/*/proofs/**/*.antt", recursive=True))
-    rt = sorted(glob.glob("crates/*/src/**/*.rt", recursive=True))
-    edits = sorted(glob.glob("crates/*/must-fail/*.edit"))
-    table = {name: respelled(name) for name in names_of(antt)}
-    standing = {}
-    for f in antt:
-        # a path and a field are no names of definitions
-        for word in set(WORD.findall(PATH.sub("", COMMENT.sub("", open(f).read())))):
-            standing.setdefault(word, f)
+def stop_where_names_meet(table, standing):
     bad = [f"{a} -> {b}: stands in {standing[b]}" for a, b in table.items() if b in standing]
     seen = {}
     for a, b in table.items():
@@ -154,15 +135,36 @@ def main():
     if bad:
         print("\n".join(sorted(bad)))
         sys.exit(1)
+
+
+def rewrite(files, turned):
     count = 0
-    for f in antt + rt + edits:
+    for f in files:
         text = open(f).read()
-        new = turn(text, table, keep_strings=f.endswith(".rt"))
+        new = turned(f, text)
         if new != text:
             open(f, "w").write(new)
             count += 1
+    return count
+
+
+def drop_dashes(antt, files):
+    table = declared(f for f in antt if "/specs/" in f)
+    stop_where_names_meet(table, standing_words(antt, lambda text: DASHED.sub("", text)))
+    marks = {".antt": "--", ".rt": "//"}
+    count = rewrite(files, lambda f, text: turn_dashes(text, table, marks.get(os.path.splitext(f)[1], "")))
+    print(f"{len(table)} names without dashes, {count} files")
+
+
+def main():
+    antt = sorted(glob.glob("crates/*/specs/**/*.antt", recursive=True) + glob.glob("crates/*/proofs/**/*.antt", recursive=True))
+    rt = sorted(glob.glob("crates/*/src/**/*.rt", recursive=True))
+    files = antt + rt + sorted(glob.glob("crates/*/must-fail/*.edit"))
+    table = {name: respelled(name) for name in names_of(antt)}
+    stop_where_names_meet(table, standing_words(antt, lambda text: text))
+    count = rewrite(files, lambda f, text: turn(text, table, keep_strings=f.endswith(".rt")))
     print(f"{len(table)} names, {count} files")
-    drop_dashes(antt, rt, edits)
+    drop_dashes(antt, files)
 
 
 main()
