@@ -1,4 +1,2 @@
--- Laws of the bench's refusals and of its two loops.
-pub mod Tested
+-- The loop that steps a table's checkers.
 pub mod Steps
-pub mod Answers

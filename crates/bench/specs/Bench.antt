@@ -1,11 +1,13 @@
 -- The bench step, from document 01, "What the viewer calls" and "Refusal numbers". Assumes nothing.
-use Rattle.std.specs.Prelude.{ℕ, ◌*◌, ◌/◌, ◌%◌, ◌<◌, ◌≡◌, List, length, get_or}
+use Rattle.std.specs.Prelude.{ℕ, ◌+◌, ◌*◌, ◌/◌, ◌%◌, ◌<◌, ◌≡◌, List, length, get_or, Result, Ok, Err}
 use Rattle.rules.specs.declared.config.Config.{Config}
 use Rattle.rules.specs.Frame.{frame_words}
+use Rattle.rules.specs.Refusals.{number_of}
 use Rattle.rules.specs.Possible.{word_refusal}
 use Rattle.rules.specs.Step.{step_row, step_word}
 use Rattle.trace.specs.Traces.{frame_at}
 use Rattle.bench_lengths.specs.Lengths.{lengths_refusal}
+use Rattle.bench.specs.declared.table.BadChecker.{BadChecker}
 
 -- what stands for a checker that the table has not: nothing is said of it
 abbrev pub blank : Config
@@ -27,6 +29,14 @@ pub record FirstBad (table : List Config) (words : List ℕ) (refusal checker : 
   pub refused : refusal ≡ refusal_at table words checker
   pub bad : refusal ≡ 0 → ⊥
   pub first : (k : ℕ) → k < checker → refusal_at table words k ≡ 0
+
+-- 256 times the refusal and the bad checker's number, and 0 where none is bad
+abbrev pub bad_number : BadChecker → ℕ
+bad_number bad = 256 * number_of bad.refusal + bad.checker
+
+abbrev pub answer_of : {A : Type 0} → Result A BadChecker → ℕ
+answer_of (Ok _) = 0
+answer_of (Err bad) = bad_number bad
 
 -- An answer is 256 times the refusal and the bad checker's number, or 0.
 pub record Tested (table : List Config) (words : List ℕ) (answer : ℕ) : Type 0 where

@@ -3,4 +3,4 @@
 
 mod table;
 
-pub use table::{step_all, test_all};
+pub use table::{BadChecker, bench, step_all, test_all};

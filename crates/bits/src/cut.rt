@@ -14,8 +14,8 @@ pub fn descending(left: u32, right: u32, wires: u32) -> u32
     (wires << (31 - left)) >> (31 - left + right)
 }
 
-// The same by a mask, which depends on the range alone: a loop over many samples has one shift and one mask in it, where the two shifts above take more. But
-// a loop that reads three ports of any direction needs so many masks that it takes longer.
+// The same by a mask, which depends on the range alone. Both forms stay for speed: a loop over many samples of one port takes one shift and one mask here, where
+// the two shifts above take more, and a loop that reads three ports of any direction needs so many masks that it takes longer.
 pub fn masked(left: u32, right: u32, wires: u32) -> u32
     requires { (right ≤ left) × (left ≤ 31) }
     ensures { result ≡ number (suc (left - right)) (λ (k : ℕ). bit wires (right + k)) }
@@ -32,7 +32,7 @@ fn swapped(wires: u32, mask: u32, width: u32) -> u32
 }
 
 // All 32 wires in the other order, without a loop: a swap turns groups of twice its width round, so that after the first the pairs of wires are turned, then
-// the nibbles, the bytes, the halves, and last the word.
+// the nibbles, the bytes, the halves, and last the word. The library's `reverse_bits` stays out for speed: it takes a turn for each of the 32 bits.
 fn reversed(wires: u32) -> u32
     ensures { result ≡ number 32 (λ (k : ℕ). bit wires (31 - k)) }
 {
@@ -51,7 +51,7 @@ pub fn ascending(left: u32, right: u32, wires: u32) -> u32
     descending(31 - left, 31 - right, reversed(wires))
 }
 
-// The same by a mask.
+// The same by a mask: each of the two is made of the one above that its loops need, for the same speed.
 pub fn masked_ascending(left: u32, right: u32, wires: u32) -> u32
     requires { (left < right) × (right ≤ 31) }
     ensures { result ≡ number (suc (right - left)) (λ (k : ℕ). bit wires (right - k)) }

@@ -11,16 +11,6 @@ pub fn block_end(a: usize, t: usize, b: usize, n: usize) -> usize
     ensures { (t < result) × (result ≤ n) × (t < b → result ≤ b) }
 {
     let length = t - a + FIRST_BLOCK;
-    if t < b {
-        return cut(t, length, b);
-    }
-    cut(t, length, n)
-}
-
-// The end, or where a block of this length from cycle t on ends before it.
-fn cut(t: usize, length: usize, end: usize) -> usize
-    requires { (t < end) × (0 < length) × (end ≤ 65536) }
-    ensures { (t < result) × (result ≤ end) }
-{
-    if end - t < length { end } else { t + length }
+    let end = if t < b { b } else { n };
+    t + length.min(end - t)
 }

@@ -169,6 +169,13 @@ module _ {c : Config} {trace : List ℕ} {t m : ℕ} {rows words picked : List �
 
     -- ---- the marked rows, one by one
 
+    pub all-picked : length (take n picked) ≡ n
+    all-picked = length-take-le n picked (omega (arith, b.picks.long, b.picks.few, b.short))
+
+    -- one of the slice that has them alone
+    pub picked-at : (i : ℕ) → i < length (take n picked) → (i < n) × (get_or picked i 0 ≡ get_or (take n picked) i 0)
+    picked-at i l = let h : i < n = omega (arith, l, all-picked) in (h, sym (get_or-take n picked i 0 h))
+
     module _ (i : ℕ) (l : i < n) where
       in-picked : i < length picked
       in-picked = omega (arith, b.picks.long, b.picks.few, b.short)

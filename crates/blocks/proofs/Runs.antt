@@ -1,6 +1,6 @@
 -- A block is a stretch of the trace, entered with the rules' word, so that its rows and words are the rules'. It need not stop, and comes to its end.
 -- Assumes nothing.
-use Prim.Native.Nat.{ℕ, suc, ◌+◌, ◌-◌, ◌≤◌, ◌<◌, zero-le}
+use Prim.Native.Nat.{ℕ, suc, ◌+◌, ◌-◌, ◌≤◌, ◌<◌, min, zero-le}
 use mathlib.Core.Path.{◌≡◌, refl, sym, ap, ◌∙◌}
 use mathlib.Core.Bool.{false}
 use mathlib.Core.List.{List}
@@ -20,11 +20,8 @@ use Rattle.marked.specs.Picks.{block_cycles, Picks}
 use Rattle.blocks.specs.Blocks.{Passing, Block}
 
 -- the cycles of a block from t on, in a trace of n cycles: those that are left, or as many as a block can have
-pub last_block : (n t m : ℕ) → t < n → m ≡ n - t → m < block_cycles → (t + m ≤ n) × (m ≤ block_cycles) × (0 < m)
-last_block n t m h e l = omega arith
-
-pub full_block : (n t m : ℕ) → block_cycles ≤ n - t → m ≡ block_cycles → (t + m ≤ n) × (m ≤ block_cycles) × (0 < m)
-full_block n t m h e = omega arith
+pub block_fits : (n t m : ℕ) → t < n → m ≡ min (n - t) block_cycles → (t + m ≤ n) × (m ≤ block_cycles) × (0 < m)
+block_fits n t m h e = (omega arith, omega arith, omega arith)
 
 -- the stretch of n cycles from t on
 abbrev pub stretch_from : ℕ → ℕ → ℕ → Stretch

@@ -1,5 +1,5 @@
 // A block is run as a whole, so that the kind is looked at once for it. Its rows and words stand in lent arrays, and so do its cycles that have entries.
-ghost use Rattle.std.specs.Prelude.{◌≡◌, ◌+◌, ◌≤◌, ◌<◌, length, get_or};
+ghost use Rattle.std.specs.Prelude.{◌≡◌, ◌+◌, ◌≤◌, ◌<◌};
 ghost use Rattle.trace.specs.Traces.{frames};
 ghost use Rattle.marked.specs.Picks.{block_cycles};
 ghost use Rattle.blocks.specs.Blocks.{Passing, Block, CycleIn};
@@ -8,6 +8,14 @@ use engine::run;
 use marked::{BLOCK, pick_marked};
 use rules::{Config, Frame};
 use trace::{Stretch, frame_at, frames_in};
+
+// The rows of a block, the word behind each of its cycles, and its cycles that have entries.
+#[derive(Drop)]
+pub struct Buffers {
+    pub rows: [u32; BLOCK],
+    pub words: [u64; BLOCK],
+    pub picked: [usize; BLOCK],
+}
 
 // How many cycles a block has, how many of them have mark 1 or 2, and the word before the cycle behind it.
 #[derive(Clone, Copy)]
@@ -18,20 +26,12 @@ pub struct BlockRun {
 }
 
 // Runs the block from cycle t on, which is shorter at the end of the trace.
-pub fn run_block(
-    c: Config,
-    trace: &[u32],
-    t: usize,
-    word: u64,
-    rows: &mut [u32; BLOCK],
-    words: &mut [u64; BLOCK],
-    picked: &mut [usize; BLOCK],
-) -> BlockRun
-    requires { (Passing c trace.now t word) × (t < frames trace.now) × (length picked.old ≡ block_cycles) }
-    ensures { (Block c trace.now t result.cycles rows.new words.new picked.new result.marked) × (Passing c trace.now (t + result.cycles) result.word) × (0 < result.cycles) }
+pub fn run_block(c: Config, trace: &[u32], t: usize, word: u64, buffers: &mut Buffers) -> BlockRun
+    requires { (Passing c trace.now t word) × (t < frames trace.now) }
+    ensures { (Block c trace.now t result.cycles buffers.new.rows buffers.new.words buffers.new.picked result.marked) × (Passing c trace.now (t + result.cycles) result.word) × (0 < result.cycles) }
 {
     let left = frames_in(trace.len()) - t;
-    let cycles = if left < BLOCK { left } else { BLOCK };
+    let cycles = left.min(BLOCK);
     let stretch = Stretch {
         from: t,
         at: 0,
@@ -40,8 +40,8 @@ pub fn run_block(
         word,
         kept: 0,
     };
-    let reached = run(c, trace, rows, words, stretch);
-    let marked = pick_marked(rows, cycles, picked);
+    let reached = run(c, trace, &mut buffers.rows, &mut buffers.words, stretch);
+    let marked = pick_marked(&buffers.rows, cycles, &mut buffers.picked);
     BlockRun {
         cycles,
         marked,
@@ -58,26 +58,17 @@ pub struct Cycle {
     pub row: u32,
 }
 
-// The cycle of a block that was picked as the i-th. The word before the block's first cycle is `word`, before any other it is the one after the cycle before.
-pub fn picked_cycle(
-    trace: &[u32],
-    t: usize,
-    word: u64,
-    rows: &[u32; BLOCK],
-    words: &[u64; BLOCK],
-    picked: &[usize; BLOCK],
-    i: usize,
-) -> Cycle
-    requires { (i < block_cycles) × (get_or picked.now i 0 < block_cycles) × (t + get_or picked.now i 0 < frames trace.now) × (frames trace.now ≤ 65536) }
-    ensures { CycleIn trace.now t word rows.now words.now (get_or picked.now i 0) result }
+// Cycle k of a block. The word before the block's first cycle is `word`, before any other it is the one after the cycle before.
+pub fn picked_cycle(trace: &[u32], t: usize, word: u64, buffers: &Buffers, k: usize) -> Cycle
+    requires { (k < block_cycles) × (t + k < frames trace.now) × (frames trace.now ≤ 65536) }
+    ensures { CycleIn trace.now t word buffers.now.rows buffers.now.words k result }
 {
-    let k = picked[i];
     let frame = frame_at(trace, t + k);
-    let before = if k == 0 { word } else { words[k - 1] };
+    let before = if k == 0 { word } else { buffers.words[k - 1] };
     Cycle {
         t: t + k,
         word: before,
         frame,
-        row: rows[k],
+        row: buffers.rows[k],
     }
 }

@@ -2,9 +2,8 @@
 ghost use Rattle.trace.specs.Traces.{frame_at};
 ghost use Rattle.blocks.specs.Blocks.{Counted, Passing, Block};
 
-use super::block::{BlockRun, picked_cycle};
+use super::block::{BlockRun, Buffers, picked_cycle};
 use cycle_entries::entries_in;
-use marked::BLOCK;
 use rules::Config;
 
 // Counts the entries of a block that was run from the word before it.
@@ -14,17 +13,15 @@ pub fn count_block(
     t: usize,
     word: u64,
     block: BlockRun,
-    rows: &[u32; BLOCK],
-    words: &[u64; BLOCK],
-    picked: &[usize; BLOCK],
+    buffers: &Buffers,
 ) -> usize
-    requires { (Passing c trace.now t word) × (Block c trace.now t block.cycles rows.now words.now picked.now block.marked) }
+    requires { (Passing c trace.now t word) × (Block c trace.now t block.cycles buffers.now.rows buffers.now.words buffers.now.picked block.marked) }
     ensures { Counted c (frame_at trace.now) t block.cycles result }
 {
-    let marked = block.marked;
+    let picked = &buffers.picked[..block.marked];
     let mut count: usize = 0;
-    for i in 0..marked {
-        let cycle = picked_cycle(trace, t, word, rows, words, picked, i);
+    for k in picked {
+        let cycle = picked_cycle(trace, t, word, buffers, *k);
         let frame = cycle.frame;
         count += entries_in(c, cycle.word, frame, cycle.row, cycle.t);
     }

@@ -5,6 +5,6 @@ mod block;
 mod count;
 mod write;
 
-pub use block::{BlockRun, run_block};
+pub use block::{BlockRun, Buffers, run_block};
 pub use count::count_block;
 pub use write::write_block;

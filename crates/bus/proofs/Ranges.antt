@@ -20,6 +20,13 @@ pub right-low : (r : Range) → T (within r) → r.right ≤ 31
 unfolding within
 right-low r h = leb→le r.right 31 (and_right (leb r.left 31) (leb r.right 31) h)
 
+-- the direction that a test of it says
+pub down : (r : Range) (b : Bool) → b ≡ leb r.right r.left → b ≡ true → r.right ≤ r.left
+down r b e f = leb-true r.right r.left (sym e ∙ f)
+
+pub up : (r : Range) (b : Bool) → b ≡ leb r.right r.left → b ≡ false → r.left < r.right
+up r b e f = leb-false r.right r.left (sym e ∙ f)
+
 -- the value of a range that is declared downwards, and of one that is declared upwards
 pub value-descending : (r : Range) (wires : ℕ) → r.right ≤ r.left
     → value_of r wires ≡ number (suc (r.left - r.right)) (λ (k : ℕ). bit wires (r.right + k))

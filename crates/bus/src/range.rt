@@ -7,7 +7,7 @@ use bits::{ascending, descending, downward, masked, masked_ascending, upward};
 
 // The ends of a port's declaration, as in Verilog: the wire `left` is the most significant.
 #[repr(C)]
-#[derive(Clone, Copy)]
+#[derive(Clone, Copy, Debug, PartialEq, Eq)]
 pub struct Range {
     pub left: u8,
     pub right: u8,
@@ -25,13 +25,7 @@ impl Range {
     pub fn width(self) -> u32
         ensures { result ≡ width self }
     {
-        let left = self.left as u32;
-        let right = self.right as u32;
-        if right <= left {
-            left - right + 1
-        } else {
-            right - left + 1
-        }
+        u32::from(self.left.abs_diff(self.right)) + 1
     }
 
     // The same wires declared from the other end, so that the value's bits come in the other order.
@@ -49,12 +43,10 @@ impl Range {
         requires { T (within self) }
         ensures { result ≡ value_of self wires }
     {
-        let left = self.left as u32;
-        let right = self.right as u32;
-        if right <= left {
-            descending(left, right, wires)
+        if self.descends() {
+            descending(self.left as u32, self.right as u32, wires)
         } else {
-            ascending(left, right, wires)
+            ascending(self.left as u32, self.right as u32, wires)
         }
     }
 
@@ -63,12 +55,10 @@ impl Range {
         requires { T (within self) }
         ensures { result ≡ value_of self wires }
     {
-        let left = self.left as u32;
-        let right = self.right as u32;
-        if right <= left {
-            masked(left, right, wires)
+        if self.descends() {
+            self.descending_value(wires)
         } else {
-            masked_ascending(left, right, wires)
+            masked_ascending(self.left as u32, self.right as u32, wires)
         }
     }
 
@@ -77,12 +67,10 @@ impl Range {
         requires { T (within self) }
         ensures { (k : ℕ) → k < width self → bit result k ≡ bit (value_of self wires) k }
     {
-        let left = self.left as u32;
-        let right = self.right as u32;
-        if right <= left {
-            upward(right, wires)
+        if self.descends() {
+            upward(self.right as u32, wires)
         } else {
-            downward(right, wires)
+            downward(self.right as u32, wires)
         }
     }
 
@@ -106,12 +94,10 @@ impl Range {
         requires { T (within self) }
         ensures { result ≡ not (eqb (value_of self wires) 0) }
     {
-        let left = self.left as u32;
-        let right = self.right as u32;
-        if right <= left {
-            masked(left, right, wires) != 0
+        if self.descends() {
+            self.descending_value(wires) != 0
         } else {
-            masked(right, left, wires) != 0
+            masked(self.right as u32, self.left as u32, wires) != 0
         }
     }
 
@@ -120,7 +106,6 @@ impl Range {
         requires { (T (within self)) × (width self ≡ 1) }
         ensures { result ≡ eqb (value_of self wires) 1 }
     {
-        let left = self.left as u32;
-        (wires >> left) % 2 == 1
+        (wires >> (self.left as u32)) % 2 == 1
     }
 }

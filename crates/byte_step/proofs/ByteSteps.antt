@@ -8,15 +8,23 @@ use native.Mathlib.Omega.{arith}
 use borrow.Author.Tests.{eq-eqb, ne_eqb}
 use lib.Dec.{eqb}
 use lib.ListN.{length}
+use Rattle.std.specs.Prelude.{Result, IsErrAnd}
+use Rattle.std.proofs.lemmas.Result.{err_from_is_err_and}
 use Rattle.rules.specs.declared.config.Config.{Config}
 use Rattle.rules.specs.declared.frame.Frame.{Frame}
 use Rattle.checker.specs.declared.monitor.Monitor.{Monitor}
+use Rattle.rules.specs.declared.refusal.Refusal.{Refusal}
 use Rattle.rules.specs.Config.{config_refusal, Good}
+use Rattle.rules.specs.Refusals.{number_of}
 use Rattle.rules.specs.Step.{step_row, step_word}
 use Rattle.rules.specs.Possible.{possible, word_refusal}
 use Rattle.checker.specs.Calls.{StepAnswer}
 use Rattle.word_bytes.specs.Bytes.{word_of, bytes_of}
-use Rattle.byte_step.specs.Step.{step_refusal, ByteStep}
+use Rattle.byte_step.specs.Step.{step_refusal, answer_of, ByteStep}
+
+-- what holds of 256 times the refusal's number holds of the answer that `?` passes up
+pub passed-up : (r : Result ℕ Refusal) (e : Refusal) → IsErrAnd r (λ y. y ≡ e) → (P : ℕ → Type 0) → P (256 * number_of e) → P (answer_of r)
+passed-up r e h P p = let q = err_from_is_err_and r h in rw (q.1, q.2) p
 
 -- with eight bytes the refusal is that of the step by value
 by_word : {c : Config} {f : Frame} {w r row : ℕ} {m : Monitor} (bytes : List ℕ) → Good c → length bytes ≡ 8 → w ≡ word_of bytes → StepAnswer c w f r row m

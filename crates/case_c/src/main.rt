@@ -23,17 +23,15 @@ fn main(rt: HostRuntime) -> io::Result<()> {
     };
     let mut monitor = Monitor { config, word: 0 };
     println!(rt; "cycle row word")?;
-    for t in 0..6 {
-        let stepped = monitor.step(Frame {
-            samples: [1, SAMPLES[t], 0, 0, 0, 0, 0, 0],
-        });
+    for (cycle, sample) in SAMPLES.iter().enumerate() {
+        let frame = Frame {
+            samples: [1, *sample, 0, 0, 0, 0, 0, 0],
+        };
+        let Ok(stepped) = monitor.step(frame) else {
+            return println!(rt; "refused");
+        };
         monitor = stepped.monitor;
-        write_line(&rt, t as u64, stepped.row, monitor.word)?;
+        println!(rt; "{cycle} {} {}", stepped.row, monitor.word)?;
     }
     Ok(())
-}
-
-// One line: the three numbers in decimal.
-fn write_line(rt: &impl Print, cycle: u64, row: u32, word: u64) -> io::Result<()> {
-    println!(rt; "{cycle} {row} {word}")
 }

@@ -1,47 +1,20 @@
 // How many checks an open word says are unfinished.
-ghost use Rattle.checker.specs.Calls.{CountAnswer};
+ghost use Rattle.rules.specs.Refusals.{refusal_of};
+ghost use Rattle.checker.specs.Calls.{count_of, CountAnswer};
 
-use cycle::to_bit;
 use open_words::refusal;
-use rules::{Config, STOPPED};
-
-// The refusal number or 0, and the count, which is 0 where it is refused.
-#[derive(Clone, Copy)]
-pub struct OpenCount {
-    pub refusal: u32,
-    pub count: u32,
-}
+use rules::{Config, Family, Refusal, STOPPED};
 
 // The open count of a word; refusals 1, 2, 3 and 7.
-pub fn open_count(c: Config, word: u64) -> OpenCount
-    ensures { CountAnswer c word result.refusal result.count }
+pub fn open_count(c: Config, word: u64) -> Result<u32, Refusal>
+    ensures { CountAnswer c word (refusal_of result) (count_of result) }
 {
-    let refused = refusal(c, word);
-    if refused != 0 {
-        return OpenCount {
-            refusal: refused,
-            count: 0,
-        };
-    }
+    refusal(c, word)?;
     if word == STOPPED {
-        return OpenCount {
-            refusal: 0,
-            count: 0,
-        };
+        return Ok(0);
     }
-    let kind = c.kind;
-    match kind {
-        0..=2 => OpenCount {
-            refusal: 0,
-            count: u64::count_ones(word),
-        },
-        3..=8 => OpenCount {
-            refusal: 0,
-            count: to_bit(word != 0),
-        },
-        9..=255 => OpenCount {
-            refusal: 0,
-            count: 0,
-        },
-    }
+    Ok(match c.family() {
+        Family::Sequence => u64::count_ones(word),
+        _ => u32::from(word != 0),
+    })
 }

@@ -4,5 +4,5 @@
 mod count;
 mod monitor;
 
-pub use count::{OpenCount, open_count};
+pub use count::open_count;
 pub use monitor::{Monitor, Stepped};

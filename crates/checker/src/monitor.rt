@@ -1,9 +1,10 @@
 // One step by value.
-ghost use Rattle.checker.specs.Calls.{StepAnswer};
+ghost use Rattle.rules.specs.Refusals.{refusal_of};
+ghost use Rattle.checker.specs.Calls.{row_answered, monitor_left, StepAnswer};
 
 use one_step::step;
 use open_words::refusal;
-use rules::{Config, Frame};
+use rules::{Config, Frame, Refusal};
 
 // A checker with its open word.
 #[derive(Clone, Copy)]
@@ -12,37 +13,26 @@ pub struct Monitor {
     pub word: u64,
 }
 
-// A step's answer: the refusal number or 0, the cycle's row, and the monitor with the next word. Refused: row 0, and the monitor as it was.
+// A step's answer: the cycle's row, and the monitor with the next word.
 #[derive(Clone, Copy)]
 pub struct Stepped {
-    pub refusal: u32,
     pub row: u32,
     pub monitor: Monitor,
 }
 
 impl Monitor {
-    // One step on a frame; refusals 1, 2, 3 and 7.
-    pub fn step(self, frame: Frame) -> Stepped
-        ensures { StepAnswer self.config self.word frame result.refusal result.row result.monitor }
+    // One step on a frame; refusals 1, 2, 3 and 7. Refused: there is no row, and the monitor stays as it was.
+    pub fn step(self, frame: Frame) -> Result<Stepped, Refusal>
+        ensures { StepAnswer self.config self.word frame (refusal_of result) (row_answered result) (monitor_left self result) }
     {
-        let config = self.config;
-        let word = self.word;
-        let refused = refusal(config, word);
-        if refused != 0 {
-            return Stepped {
-                refusal: refused,
-                row: 0,
-                monitor: self,
-            };
-        }
-        let next = step(config, word, frame);
-        Stepped {
-            refusal: 0,
+        refusal(self.config, self.word)?;
+        let next = step(self.config, self.word, frame);
+        Ok(Stepped {
             row: next.row,
             monitor: Monitor {
-                config,
                 word: next.word,
+                ..self
             },
-        }
+        })
     }
 }

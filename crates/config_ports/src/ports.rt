@@ -1,20 +1,22 @@
 // The ports of a configuration, and the value that is expected at P.
 ghost use Rattle.std.specs.Prelude.{◌≡◌, T};
 ghost use Rattle.bus.specs.Range.{within};
-ghost use Rattle.rules.specs.Config.{value_fits, unused, widths, ports};
+ghost use Rattle.rules.specs.Config.{family, value_fits, unused, widths_of, ports};
+ghost use Rattle.rules.specs.Families.{named};
 
 use bits::low_ones;
 use bus::Range;
-use rules::Config;
+use rules::{Config, Family};
 
 // Whether the expected value fits the width of P, whose ends are wires, or is 0 where it is unused.
-fn value_fits(c: Config) -> bool
+fn value_fits(f: Family, c: Config) -> bool
     requires { T (within c.p) }
-    ensures { result ≡ value_fits c }
+    ensures { named f ≡ family c.kind → result ≡ value_fits c }
 {
-    let p = c.p;
-    let most = if c.kind == 7 { low_ones(p.width()) } else { 0 };
-    c.value as u64 <= most
+    match f {
+        Family::Value => c.value as u64 <= low_ones(c.p.width()),
+        Family::Sequence | Family::Time | Family::Transition | Family::Stability => c.value == 0,
+    }
 }
 
 // Whether a port's declaration is 0:0, as that of an unused port must be.
@@ -24,34 +26,28 @@ fn is_unused(range: Range) -> bool
     (range.left == 0) & (range.right == 0)
 }
 
-// Whether the ports have the widths that the kind asks for, and those that it does not use are 0:0.
-fn widths_fit(c: Config) -> bool
-    ensures { result ≡ widths c }
+// Whether the ports have the widths that the family asks for, and those that it does not use are 0:0.
+fn widths_fit(f: Family, c: Config) -> bool
+    ensures { result ≡ widths_of (named f) c }
 {
-    let kind = c.kind;
-    let n = c.n;
-    let p = c.p;
-    let q = c.q;
-    let r = c.r;
-    let width = p.width();
-    match kind {
-        0..=2 => (width == n) & (is_unused(q) & is_unused(r)),
-        3..=5 => (width == 1) & ((q.width() == 1) & is_unused(r)),
-        6 => (q.width() == width) & (r.width() == width),
-        7..=8 => (q.width() == 1) & is_unused(r),
-        9..=255 => false,
+    let width = c.p.width();
+    match f {
+        Family::Sequence => (width == c.n) & (is_unused(c.q) & is_unused(c.r)),
+        Family::Time => (width == 1) & ((c.q.width() == 1) & is_unused(c.r)),
+        Family::Transition => (c.q.width() == width) & (c.r.width() == width),
+        Family::Value | Family::Stability => (c.q.width() == 1) & is_unused(c.r),
     }
 }
 
-// Whether no index is above 31, the widths fit, and the expected value.
+// Whether no index is above 31, the widths fit, and the expected value: of a kind that has no family, no width fits.
 pub fn ports_fit(c: Config) -> bool
     ensures { result ≡ ports c }
 {
-    let p = c.p;
-    let q = c.q;
-    let r = c.r;
-    if !(p.within() & (q.within() & r.within())) {
+    if !(c.p.within() & (c.q.within() & c.r.within())) {
         return false;
     }
-    widths_fit(c) & value_fits(c)
+    let Ok(family) = Family::try_from(c.kind) else {
+        return false;
+    };
+    widths_fit(family, c) & value_fits(family, c)
 }

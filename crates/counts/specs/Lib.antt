@@ -1,2 +1,3 @@
 -- What the contracts of the counts of marks cite.
 pub mod Counts
+pub mod Totals

@@ -5,4 +5,4 @@ mod rows;
 mod total;
 
 pub use rows::marks_in;
-pub use total::{MarkTotals, totals};
+pub use total::totals;

@@ -12,6 +12,7 @@ pub fn marks_in(rows: &[u32], from: usize, to: usize) -> Tally
 {
     let mut tally = Tally::all(0);
     let mut at = from;
+    // Each turn goes on by what `half_of` answers, so no range has the steps.
     while at + 1 < to {
         let half = half_of(to - at);
         tally = with_halves(rows, at, half, tally);

@@ -6,7 +6,7 @@ mod outcome;
 mod reset;
 mod wires;
 
-pub use marks::{check_row, row_of, to_bit, window_row};
+pub use marks::{Marks, check_row, to_bit, window_row};
 pub use outcome::Outcome;
 pub use reset::{is_enabled, out_of_reset};
 pub use wires::sample;

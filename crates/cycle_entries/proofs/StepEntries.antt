@@ -24,7 +24,7 @@ use Rattle.rules.specs.Rules.{Marks, row_of}
 use Rattle.rules.specs.Sequence.{event_missed}
 use Rattle.rules.specs.Step.{left_in, attempt_on, pends, tracked_marks, step_marks_of, going_step_row}
 use Rattle.rules.specs.Possible.{possible_of}
-use Rattle.rules.proofs.Good.{family-time, family-transition, family-value, family-stability, kind-low, possible-are, sequence-config, time-config, value-config, stability-config}
+use Rattle.rules.proofs.Good.{possible-are, sequence-config, time-config, value-config, stability-config}
 use Rattle.rules.proofs.TriggerWords.{word-parts}
 use Rattle.listed.specs.Lists.{entry, chosen}
 use Rattle.listed.specs.Starts.{triggered_at, failed_of, illegal_of, fails, starts_illegally}
@@ -342,6 +342,10 @@ module _ (c : Config) (w : ℕ) (f : Frame) (row t : ℕ) (r : Ready c w f row t
     unfolding failed_of step_marks_of tracked_marks
     value_is h = triggered-is w value_low.0 value_low.2 value fam h refl (λ u. refl)
 
+    pub value-counts : 0 < row % 4 → row % 4 % 2 + row % 4 / 2 ≡ length (step_entries c w f t)
+    unfolding step_marks_of tracked_marks
+    value-counts h = single-counts value fam h refl _ (value_is h)
+
   module _ (fam : family c.kind ≡ stability) where
     pub stability-low : (left_in w ≤ c.n) × (c.n ≤ max_window) × (0 < left_in w → c.n < left_in w + t)
     stability-low = (
@@ -354,17 +358,6 @@ module _ (c : Config) (w : ℕ) (f : Frame) (row t : ℕ) (r : Ready c w f row t
     unfolding failed_of step_marks_of tracked_marks
     stability-is h = triggered-is (left_in w) stability-low.0 stability-low.2 stability fam h refl (λ u. refl)
 
-  -- ---- all kinds but the sequences
-
-  pub others-count : 3 ≤ c.kind → 0 < row % 4 → row % 4 % 2 + row % 4 / 2 ≡ length (step_entries c w f t)
-  unfolding step_marks_of tracked_marks
-  others-count l h =
-      ⊎_elim
-      (λ (q : c.kind ≡ 8). let fam = family-stability c.kind q in single-counts stability fam h refl _ (stability-is fam h))
-      (λ (b : c.kind < 8).
-      ⊎_elim (λ (q : c.kind ≡ 7). let fam = family-value c.kind q in single-counts value fam h refl _ (value_is fam h))
-      (λ (b' : c.kind < 7).
-      ⊎_elim (λ (q : c.kind ≡ 6). transition-counts (family-transition c.kind q) h)
-      (λ (b'' : c.kind < 6). window-counts (family-time c.kind l b'') h) (eq-or-lt_of_le (le_of_suc-le-suc b')))
-      (eq-or-lt_of_le (le_of_suc-le-suc b)))
-      (eq-or-lt_of_le (kind-low c r.good))
+    pub stability-counts : 0 < row % 4 → row % 4 % 2 + row % 4 / 2 ≡ length (step_entries c w f t)
+    unfolding step_marks_of tracked_marks
+    stability-counts h = single-counts stability fam h refl _ (stability-is h)

@@ -5,7 +5,7 @@ ghost use Rattle.cycle_entries.specs.Steps.{step_entries, Ready};
 
 use super::lost::lost_attempts;
 use entries::{write_attempts, write_entry, write_window};
-use rules::{Config, Frame, REFERENCE_UNIT};
+use rules::{Config, Family, Frame, REFERENCE_UNIT};
 
 // How many entries a cycle whose row has mark 1 or 2 has.
 pub fn entries_in(c: Config, word: u64, frame: Frame, row: u32, t: usize) -> usize
@@ -13,10 +13,11 @@ pub fn entries_in(c: Config, word: u64, frame: Frame, row: u32, t: usize) -> usi
     ensures { (result ≡ length (step_entries c word frame t)) × (result ≤ 64) }
 {
     let marks = row % 4;
-    let kind = c.kind;
-    match kind {
-        0..=2 => u64::count_ones(lost_attempts(c, word, frame)) as usize,
-        3..=255 => (marks % 2 + marks / 2) as usize,
+    match c.family() {
+        Family::Sequence => u64::count_ones(lost_attempts(c, word, frame)) as usize,
+        Family::Time | Family::Transition | Family::Value | Family::Stability => {
+            (marks % 2 + marks / 2) as usize
+        }
     }
 }
 
@@ -33,30 +34,19 @@ pub fn write_entries(
     requires { (Ready c word frame row t) × (0 < row % 4) × (at + 3 * length (step_entries c word frame t) ≤ length list.old) }
     ensures { Stored (step_entries c word frame t) list.old at list.new result }
 {
-    let marks = row % 4;
-    let kind = c.kind;
-    match kind {
-        0..=2 => write_attempts(lost_attempts(c, word, frame), t, list, at),
-        3..=5 => write_window(marks, t + word as usize - c.n as usize - 1, t, list, at),
-        6 => write_entry(t, 1, t - 1, list, at),
-        7 => write_entry(
-            t,
-            1,
-            trigger_cycle(t, word as usize, c.n as usize),
-            list,
-            at,
-        ),
-        8 => {
-            let left = word % REFERENCE_UNIT;
-            write_entry(
-                t,
-                1,
-                trigger_cycle(t, left as usize, c.n as usize),
-                list,
-                at,
-            )
+    match c.family() {
+        Family::Sequence => write_attempts(lost_attempts(c, word, frame), t, list, at),
+        Family::Time => write_window(row % 4, t + word as usize - c.n as usize - 1, t, list, at),
+        Family::Transition => write_entry(t, 1, t - 1, list, at),
+        Family::Value => {
+            let start = trigger_cycle(t, word as usize, c.n as usize);
+            write_entry(t, 1, start, list, at)
         }
-        9..=255 => at,
+        Family::Stability => {
+            let left = word % REFERENCE_UNIT;
+            let start = trigger_cycle(t, left as usize, c.n as usize);
+            write_entry(t, 1, start, list, at)
+        }
     }
 }
 

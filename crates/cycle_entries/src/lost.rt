@@ -15,9 +15,9 @@ pub fn lost_attempts(c: Config, word: u64, frame: Frame) -> u64
     ensures { result ≡ number (c.n - 1) (λ (j : ℕ). bit word j && event_missed c frame (c.n - 1 - suc j) && (not (eqb c.kind 0) || eqb (suc j) (c.n - 1))) }
 {
     let lost = word & (missed_in_order(c, frame) >> 1);
-    let n = c.n;
+    // The kinds of a family are told apart by the number that the C interface has for them.
     if c.kind == 0 {
-        lost & (1u64 << (n - 2))
+        lost & (1u64 << (c.n - 2))
     } else {
         lost
     }

@@ -8,6 +8,8 @@ use Rattle.dump_words.specs.Gather.{text_is, text_in}
 use Rattle.dump_find.specs.Find.{lookup}
 use Rattle.dump_values.specs.Values.{bits_changed}
 use Rattle.dump_change.specs.declared.wave.Wave.{Wave}
+use Rattle.dump_change.specs.declared.stamp.StampOrder.{StampOrder}
+use Rattle.dump_change.specs.declared.stamp.StampOrder.TheVariants.{Next, Equal, Back}
 
 abbrev pub at : Wave → ℕ → Wave
 at w place = record { place = place; identifier = w.identifier; dumping = w.dumping; count = w.count; stamped = w.stamped; stamp = w.stamp; frames = w.frames }
@@ -116,6 +118,12 @@ opened store = set (open_from store 0 8) 8467 (get_or (open_from store 0 8) 8466
 
 unfoldable pub stamp_order : Wave → ℕ → ℕ
 stamp_order w v = cond (eqb w.stamped 0) 0 (cond (ltb v w.stamp) 2 (cond (eqb v w.stamp) 1 0))
+
+-- the order as the number that stamp_order says
+abbrev pub order_number : StampOrder → ℕ
+order_number Next = 0
+order_number Equal = 1
+order_number Back = 2
 
 abbrev pub stamped_at : Wave → ℕ → Wave
 stamped_at w v = record { place = 20; identifier = w.identifier; dumping = w.dumping; count = w.count; stamped = 1; stamp = v; frames = w.frames }

@@ -5,7 +5,7 @@ ghost use Rattle.dump_change.specs.Change.{tail_code, scalar_test, on_scalar, sc
 use crate::wave::{Wave, unknown_code, wave_at};
 use dump_find::find;
 use dump_values::change_bits;
-use dump_words::{Text, text_is};
+use dump_words::{Keyword, Text, text_is};
 
 // The code behind the first byte of a word of at most nine bytes.
 fn tail_code(t: Text) -> u64
@@ -76,10 +76,11 @@ fn vector_test(w: Wave, plain: u64, x: u64, i: usize, n: usize, store: &[u64]) -
     if w.count > store[1024 + i] {
         return wave_at(w, 110);
     }
-    let mut r = w;
-    r.place = 20;
-    r.count = 0;
-    r
+    Wave {
+        place: 20,
+        count: 0,
+        ..w
+    }
 }
 
 // The code of a vector, whose digits stand in front of `digits`.
@@ -90,7 +91,7 @@ pub fn on_vector_code(w: Wave, t: Text, n: usize, store: &mut [u64], digits: &[u
     if t.length > 8 {
         return wave_at(w, 112);
     }
-    if text_is(t, 4, 1684956452, 0) {
+    if text_is(t, Keyword::END) {
         return wave_at(w, 110);
     }
     let i = find(store, n, t.low);
@@ -136,7 +137,7 @@ pub fn on_real_code(w: Wave, t: Text, n: usize, store: &[u64]) -> Wave
     if t.length > 8 {
         return wave_at(w, 112);
     }
-    if text_is(t, 4, 1684956452, 0) {
+    if text_is(t, Keyword::END) {
         return wave_at(w, 110);
     }
     let i = find(store, n, t.low);

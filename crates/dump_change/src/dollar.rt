@@ -4,9 +4,9 @@ ghost use Rattle.dump.specs.Changes.{value_of};
 ghost use Rattle.dump_change.specs.Change.{dumps, in_dump, on_dollar, on_comment, on_vector, on_real};
 
 use crate::wave::{Wave, wave_at};
-use dump_words::{Text, one_of, text_is};
+use dump_words::{Keyword, Text, one_of, text_is};
 
-// 0, 1, or 2 for x and z; 3 for any other byte.
+// 0, 1, or 2 for x and z; 3 for any other byte. The definition `value_of` and the digits in a reader's state have the 3 too, so it is no Option.
 pub fn value_of(b: u8) -> u8
     ensures { result ≡ value_of b }
 {
@@ -34,17 +34,18 @@ pub fn value_of(b: u8) -> u8
 fn with_dumping(w: Wave, dumping: u64) -> Wave
     ensures { result ≡ dumps w dumping }
 {
-    let mut r = w;
-    r.place = 20;
-    r.dumping = dumping;
-    r
+    Wave {
+        place: 20,
+        dumping,
+        ..w
+    }
 }
 
 // A keyword within a dump command.
 fn in_dump(w: Wave, t: Text) -> Wave
     ensures { result ≡ in_dump w t }
 {
-    if text_is(t, 4, 1684956452, 0) {
+    if text_is(t, Keyword::END) {
         return with_dumping(w, 0);
     }
     wave_at(w, 110)
@@ -58,24 +59,16 @@ pub fn on_dollar(w: Wave, t: Text) -> Wave
     }
     // $dumpall $dumpoff $dumpon $dumpvars
     let words = [
-        8,
-        7812726589081609252,
-        0,
-        8,
-        7378707568156566564,
-        0,
-        7,
-        31084776101602340,
-        0,
-        9,
-        8241999018309542948,
-        115,
+        Keyword(8, 7812726589081609252, 0),
+        Keyword(8, 7378707568156566564, 0),
+        Keyword(7, 31084776101602340, 0),
+        Keyword(9, 8241999018309542948, 115),
     ];
     if one_of(t, &words) {
         return with_dumping(w, 1);
     }
     // $comment
-    if text_is(t, 8, 8389754676499669796, 0) {
+    if text_is(t, Keyword(8, 8389754676499669796, 0)) {
         return wave_at(w, 23);
     }
     wave_at(w, 110)
@@ -85,7 +78,7 @@ pub fn on_dollar(w: Wave, t: Text) -> Wave
 pub fn on_comment(w: Wave, t: Text) -> Wave
     ensures { result ≡ on_comment w t }
 {
-    if text_is(t, 4, 1684956452, 0) {
+    if text_is(t, Keyword::END) {
         return wave_at(w, 20);
     }
     w
@@ -101,10 +94,11 @@ pub fn on_vector(w: Wave, count: u64, wrong: u64) -> Wave
     if wrong != 0 {
         return wave_at(w, 110);
     }
-    let mut r = w;
-    r.place = 21;
-    r.count = count;
-    r
+    Wave {
+        place: 21,
+        count,
+        ..w
+    }
 }
 
 // A real's number: at least one byte behind the first.

@@ -9,10 +9,8 @@ fn sample(store: &[u64], frames: &mut [u32], k: usize)
     requires { (length store.now ≡ 8468) × (8 * k + 8 ≤ length frames.old) }
     ensures { frames.new ≡ sample_from store.now frames.old k 0 8 }
 {
-    let mut j = 0;
-    while j < 8 {
+    for j in 0..8 {
         frames[8 * k + j] = (store[8458 + j] % 4294967296) as u32;
-        j += 1;
     }
 }
 
@@ -37,11 +35,13 @@ fn with_frame(w: Wave) -> Wave
     requires { w.frames ≤ 65536 }
     ensures { result ≡ sampled w }
 {
-    let mut r = w;
-    r.frames = w.frames + 1;
-    r
+    Wave {
+        frames: w.frames + 1,
+        ..w
+    }
 }
 
+// docs/CLAIMS.md names `close_stamp` with a contract over any slice of the store's length, so the length stays a clause and no array type carries it.
 pub fn close_stamp(w: Wave, store: &[u64], frames: &mut [u32]) -> Wave
     requires { (length store.now ≡ 8468) × (length frames.old ≤ 524288) }
     ensures { (result ≡ closed w store.now frames.old) × (frames.new ≡ closed_frames w store.now frames.old) }

@@ -1,6 +1,6 @@
 // A stamp of the dump.
 ghost use Rattle.std.specs.Prelude.{◌≡◌, ◌≤◌, length};
-ghost use Rattle.dump_change.specs.Change.{open_from, opened, stamp_order, stamped_at, next_wave, next_store, next_frames, stamp_wave, stamp_store, stamp_frames, on_stamp, on_stamp_store, on_stamp_frames};
+ghost use Rattle.dump_change.specs.Change.{open_from, opened, order_number, stamp_order, stamped_at, next_wave, next_store, next_frames, stamp_wave, stamp_store, stamp_frames, on_stamp, on_stamp_store, on_stamp_frames};
 
 use crate::sample::close_stamp;
 use crate::wave::{Wave, wave_at};
@@ -11,38 +11,45 @@ fn open_stamp(store: &mut [u64])
     requires { length store.old ≡ 8468 }
     ensures { store.new ≡ opened store.old }
 {
-    let mut j = 0;
-    while j < 8 {
+    for j in 0..8 {
         store[8458 + j] = store[8450 + j];
-        j += 1;
     }
     store[8467] = store[8466];
 }
 
-// 0 for a stamp that is greater than the one before or is the first, 1 for an equal one, 2 for one that goes back.
-fn stamp_order(w: Wave, v: u64) -> u64
-    ensures { result ≡ stamp_order w v }
+// How a stamp stands to the one before.
+#[derive(Clone, Copy)]
+pub enum StampOrder {
+    // It is greater, or the first.
+    Next,
+    Equal,
+    Back,
+}
+
+fn stamp_order(w: Wave, v: u64) -> StampOrder
+    ensures { order_number result ≡ stamp_order w v }
 {
     if w.stamped == 0 {
-        return 0;
+        return StampOrder::Next;
     }
     if v < w.stamp {
-        return 2;
+        return StampOrder::Back;
     }
     if v == w.stamp {
-        return 1;
+        return StampOrder::Equal;
     }
-    0
+    StampOrder::Next
 }
 
 fn with_stamp(w: Wave, v: u64) -> Wave
     ensures { result ≡ stamped_at w v }
 {
-    let mut r = w;
-    r.place = 20;
-    r.stamped = 1;
-    r.stamp = v;
-    r
+    Wave {
+        place: 20,
+        stamped: 1,
+        stamp: v,
+        ..w
+    }
 }
 
 // A greater stamp closes the one before and opens its own.
@@ -62,14 +69,11 @@ fn stamp_at(w: Wave, v: u64, store: &mut [u64], frames: &mut [u32]) -> Wave
     requires { (length store.old ≡ 8468) × (length frames.old ≤ 524288) }
     ensures { (result ≡ stamp_wave w v store.old frames.old) × (store.new ≡ stamp_store w v store.old frames.old) × (frames.new ≡ stamp_frames w v store.old frames.old) }
 {
-    let order = stamp_order(w, v);
-    if order == 0 {
-        return next_stamp(w, v, store, frames);
+    match stamp_order(w, v) {
+        StampOrder::Next => next_stamp(w, v, store, frames),
+        StampOrder::Equal => w,
+        StampOrder::Back => wave_at(w, 114),
     }
-    if order == 1 {
-        return w;
-    }
-    wave_at(w, 114)
 }
 
 pub fn on_stamp(w: Wave, n: Number, store: &mut [u64], frames: &mut [u32]) -> Wave

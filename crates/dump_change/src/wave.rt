@@ -2,6 +2,7 @@
 ghost use Rattle.std.specs.Prelude.{◌≡◌};
 ghost use Rattle.dump_change.specs.Change.{at, unknown_code};
 
+// Part of a reader's state, which the C host hands over with any bytes in it: so its place and its flags are numbers, and no enums.
 #[repr(C)]
 #[derive(Clone, Copy)]
 pub struct Wave {
@@ -20,21 +21,33 @@ pub struct Wave {
     pub frames: u64,
 }
 
+impl Wave {
+    // Nothing is read yet.
+    pub const START: Wave = Wave {
+        place: 0,
+        identifier: 0,
+        dumping: 0,
+        count: 0,
+        stamped: 0,
+        stamp: 0,
+        frames: 0,
+    };
+}
+
 // Another word is due, and nothing else changes.
 pub fn wave_at(w: Wave, place: u64) -> Wave
     ensures { result ≡ at w place }
 {
-    let mut r = w;
-    r.place = place;
-    r
+    Wave { place, ..w }
 }
 
 // Refused for a code that is not declared.
 pub fn unknown_code(w: Wave, x: u64) -> Wave
     ensures { result ≡ unknown_code w x }
 {
-    let mut r = w;
-    r.place = 110;
-    r.identifier = x;
-    r
+    Wave {
+        place: 110,
+        identifier: x,
+        ..w
+    }
 }

@@ -4,9 +4,9 @@ ghost use Rattle.dump_declare.specs.Declare.{sort_of, left_of, right_of, declare
 
 use crate::head::{Head, at_command, at_place};
 use dump_find::{bounded_count, find, slot_of};
-use dump_words::{Text, text_is};
+use dump_words::{Keyword, Text, text_is};
 
-// 0 bits with no range, 1 bits with one, 2 a real.
+// 0 bits with no range, 1 bits with one, 2 a real. It goes into a word of the store, which the C host hands over, so it is a number.
 fn sort_of(h: Head) -> u64
     ensures { result ≡ sort_of h }
 {
@@ -93,7 +93,7 @@ pub fn on_var_end(h: Head, t: Text, store: &mut [u64]) -> Head
     requires { length store.old ≡ 8468 }
     ensures { (result ≡ end_head h t store.old) × (store.new ≡ end_store h t store.old) }
 {
-    if text_is(t, 4, 1684956452, 0) {
+    if text_is(t, Keyword::END) {
         if h.misfit == 0 {
             return declare(h, store);
         }

@@ -2,6 +2,7 @@
 ghost use Rattle.std.specs.Prelude.{◌≡◌};
 ghost use Rattle.dump_declare.specs.Declare.{at, commanded, named};
 
+// Part of a reader's state, which the C host hands over with any bytes in it: so its place, its flags and its ends are numbers, and no enums.
 #[repr(C)]
 #[derive(Clone, Copy)]
 pub struct Head {
@@ -23,13 +24,28 @@ pub struct Head {
     pub right: u64,
 }
 
+impl Head {
+    // Nothing is read, and a command is due.
+    pub const START: Head = Head {
+        place: 0,
+        depth: 0,
+        vars: 0,
+        codes: 0,
+        real: 0,
+        width: 0,
+        code: 0,
+        misfit: 0,
+        ends: 0,
+        left: 0,
+        right: 0,
+    };
+}
+
 // Another word is due, and nothing else changes.
 pub fn at_place(h: Head, place: u64) -> Head
     ensures { result ≡ at h place }
 {
-    let mut r = h;
-    r.place = place;
-    r
+    Head { place, ..h }
 }
 
 // Behind a command's keyword or its end: no variable is declared.
@@ -41,13 +57,7 @@ pub fn at_command(place: u64, depth: u64, vars: u64, codes: u64) -> Head
         depth,
         vars,
         codes,
-        real: 0,
-        width: 0,
-        code: 0,
-        misfit: 0,
-        ends: 0,
-        left: 0,
-        right: 0,
+        ..Head::START
     }
 }
 
@@ -57,15 +67,10 @@ pub fn at_range(h: Head, place: u64, misfit: u64, ends: u64, left: u64, right: u
 {
     Head {
         place,
-        depth: h.depth,
-        vars: h.vars,
-        codes: h.codes,
-        real: h.real,
-        width: h.width,
-        code: h.code,
         misfit,
         ends,
         left,
         right,
+        ..h
     }
 }

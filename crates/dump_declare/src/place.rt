@@ -77,6 +77,7 @@ fn ends_var(h: Head, s: Scan) -> bool
     false
 }
 
+// docs/CLAIMS.md names `declaration` with a contract over any slice of the store's length, so the length stays a clause and no array type carries it.
 // What is kept of the word: its text, and the number or the range that it is.
 pub fn declaration(h: Head, t: Text, n: Number, s: Scan, store: &mut [u64]) -> Head
     requires { length store.old ≡ 8468 }

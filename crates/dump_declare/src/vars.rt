@@ -2,18 +2,18 @@
 ghost use Rattle.std.specs.Prelude.{◌≡◌, length, ◌≤◌, ◌<◌};
 ghost use Rattle.dump_declare.specs.Declare.{typed, on_var_type, sized, on_width, coded, agrees, code_at, on_var_code, range_fits, numbers_fit, name_with, on_var_name, range_with, on_range_word};
 
-use crate::head::{Head, at_place, at_range};
+use crate::head::{Head, at_command, at_place, at_range};
 use dump_find::{bounded_count, find};
-use dump_words::{Number, Scan, Text, one_of, text_is};
+use dump_words::{Keyword, Number, Scan, Text, one_of, text_is};
 
 fn with_type(h: Head, real: u64) -> Head
     ensures { result ≡ typed h real }
 {
-    let mut r = at_range(h, 8, 0, 0, 0, 0);
-    r.real = real;
-    r.width = 0;
-    r.code = 0;
-    r
+    Head {
+        place: 8,
+        real,
+        ..at_command(0, h.depth, h.vars, h.codes)
+    }
 }
 
 pub fn on_var_type(h: Head, t: Text) -> Head
@@ -21,60 +21,31 @@ pub fn on_var_type(h: Head, t: Text) -> Head
 {
     // event integer parameter reg supply0 supply1 time tri triand trior trireg tri0 tri1 wand wire wor
     let bits = [
-        5,
-        500068349541,
-        0,
-        7,
-        32199642103180905,
-        0,
-        9,
-        7310579615589884272,
-        114,
-        3,
-        6776178,
-        0,
-        7,
-        13644305531958643,
-        0,
-        7,
-        13925780508669299,
-        0,
-        4,
-        1701669236,
-        0,
-        3,
-        6910580,
-        0,
-        6,
-        110425243480692,
-        0,
-        5,
-        491495453300,
-        0,
-        6,
-        113685408871028,
-        0,
-        4,
-        812216948,
-        0,
-        4,
-        828994164,
-        0,
-        4,
-        1684955511,
-        0,
-        4,
-        1701996919,
-        0,
-        3,
-        7499639,
-        0,
+        Keyword(5, 500068349541, 0),
+        Keyword(7, 32199642103180905, 0),
+        Keyword(9, 7310579615589884272, 114),
+        Keyword(3, 6776178, 0),
+        Keyword(7, 13644305531958643, 0),
+        Keyword(7, 13925780508669299, 0),
+        Keyword(4, 1701669236, 0),
+        Keyword(3, 6910580, 0),
+        Keyword(6, 110425243480692, 0),
+        Keyword(5, 491495453300, 0),
+        Keyword(6, 113685408871028, 0),
+        Keyword(4, 812216948, 0),
+        Keyword(4, 828994164, 0),
+        Keyword(4, 1684955511, 0),
+        Keyword(4, 1701996919, 0),
+        Keyword(3, 7499639, 0),
     ];
     if one_of(t, &bits) {
         return with_type(h, 0);
     }
     // real realtime
-    let reals = [4, 1818322290, 0, 8, 7308613719047628146, 0];
+    let reals = [
+        Keyword(4, 1818322290, 0),
+        Keyword(8, 7308613719047628146, 0),
+    ];
     if one_of(t, &reals) {
         return with_type(h, 1);
     }
@@ -84,10 +55,11 @@ pub fn on_var_type(h: Head, t: Text) -> Head
 fn with_width(h: Head, width: u64) -> Head
     ensures { result ≡ sized h width }
 {
-    let mut r = at_range(h, 9, 0, 0, 0, 0);
-    r.width = width;
-    r.code = 0;
-    r
+    Head {
+        width,
+        code: 0,
+        ..at_range(h, 9, 0, 0, 0, 0)
+    }
 }
 
 // A number above 64 bits is above 4,096 too.
@@ -112,9 +84,10 @@ pub fn on_width(h: Head, n: Number) -> Head
 fn with_code(h: Head, code: u64) -> Head
     ensures { result ≡ coded h code }
 {
-    let mut r = at_range(h, 10, 0, 0, 0, 0);
-    r.code = code;
-    r
+    Head {
+        code,
+        ..at_range(h, 10, 0, 0, 0, 0)
+    }
 }
 
 // Whether the code at place i has the width and the sort that are declared now.
@@ -152,7 +125,7 @@ pub fn on_var_code(h: Head, t: Text, store: &[u64]) -> Head
     if t.length > 8 {
         return at_place(h, 112);
     }
-    if text_is(t, 4, 1684956452, 0) {
+    if text_is(t, Keyword::END) {
         return at_place(h, 110);
     }
     if t.plain != 1 {
@@ -202,16 +175,14 @@ fn name_with(h: Head, ends: u64, left: Number, right: Number) -> Head
 pub fn on_var_name(h: Head, t: Text, s: Scan) -> Head
     ensures { result ≡ on_var_name h t s }
 {
-    let left = s.left;
-    let right = s.right;
-    if text_is(t, 4, 1684956452, 0) {
+    if text_is(t, Keyword::END) {
         return at_place(h, 110);
     }
     if h.real == 1 {
         return at_range(h, 11, 0, 0, 0, 0);
     }
     if s.phase == 4 {
-        return name_with(h, 1, left, right);
+        return name_with(h, 1, s.left, s.right);
     }
     if s.phase != 3 {
         return at_range(h, 11, 0, 0, 0, 0);
@@ -219,7 +190,7 @@ pub fn on_var_name(h: Head, t: Text, s: Scan) -> Head
     if h.width != 1 {
         return at_range(h, 11, 0, 0, 0, 0);
     }
-    name_with(h, 2, left, left)
+    name_with(h, 2, s.left, s.left)
 }
 
 // A word that is a range of these ends.
@@ -236,10 +207,8 @@ fn range_with(h: Head, ends: u64, left: Number, right: Number) -> Head
 pub fn on_range_word(h: Head, s: Scan) -> Head
     ensures { result ≡ on_range_word h s }
 {
-    let left = s.left;
-    let right = s.right;
     if s.phase == 4 {
-        return range_with(h, 1, left, right);
+        return range_with(h, 1, s.left, s.right);
     }
-    range_with(h, 2, left, left)
+    range_with(h, 2, s.left, s.left)
 }

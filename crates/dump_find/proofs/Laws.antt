@@ -29,8 +29,10 @@ module _ (store : List ℕ) (long : length store ≡ 8468) (n : ℕ) (few : n �
   here : i < n → i < length (take n store)
   here h = rw (length-take-le n store (omega arith)) h
 
-  pub search-end : n ≤ i → i ≡ index_of (take n store) x
-  search-end h = sym (inv ∙ ap (λ (k : ℕ). i + k) (past (take n store) x i (rw (length-take-le n store (omega arith)) h)) ∙ add-zero i)
+  pub search-end : n ≤ i → i ≤ n → n ≡ index_of (take n store) x
+  search-end h k =
+      let same : n ≡ i = omega arith in
+      same ∙ sym (inv ∙ ap (λ (k : ℕ). i + k) (past (take n store) x i (rw (length-take-le n store (omega arith)) h)) ∙ add-zero i)
 
   pub search-here : i < n → get_or store i 0 ≡ x → i ≡ index_of (take n store) x
   search-here h e = sym (inv ∙ ap (λ (k : ℕ). i + k) (hit (take n store) x i (here h) (get_or-take n store i 0 h ∙ e)) ∙ add-zero i)

@@ -33,16 +33,15 @@ fn search(store: &[u64], n: usize, x: u64) -> usize
     requires { (length store.now ≡ 8468) × (n ≤ 1024) }
     ensures { result ≡ index_of (take n store.now) x }
 {
-    let mut i = 0;
-    while i < n {
+    for i in 0..n {
         if store[i] == x {
             return i;
         }
-        i += 1;
     }
-    i
+    n
 }
 
+// docs/CLAIMS.md names `find` with a contract over any slice of the store's length, so the length stays a clause and no array type carries it.
 // A place of x among the first n codes, or n.
 pub fn find(store: &[u64], n: usize, x: u64) -> usize
     requires { (length store.now ≡ 8468) × (n ≤ 1024) }

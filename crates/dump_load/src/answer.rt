@@ -1,9 +1,12 @@
 // What a load answers.
 ghost use Rattle.std.specs.Prelude.{◌≡◌};
+ghost use Rattle.rules.specs.Refusals.{number_of};
 ghost use Rattle.dump_load.specs.Loading.{refused_with, answered};
 
 use dump_reader::{Reader, place_of};
+use rules::Refusal;
 
+// The C host reads it, so the refusal stands by its number, 0 for none.
 #[repr(C)]
 #[derive(Clone, Copy)]
 pub struct Loaded {
@@ -15,15 +18,23 @@ pub struct Loaded {
     pub identifier: u64,
 }
 
-// Refused before anything is read.
-pub fn refused_with(refusal: u32) -> Loaded
-    ensures { result ≡ refused_with refusal }
-{
-    Loaded {
-        refusal,
+impl Loaded {
+    // Not refused, and nothing is sampled.
+    pub const NONE: Loaded = Loaded {
+        refusal: 0,
         frames: 0,
         line: 0,
         identifier: 0,
+    };
+}
+
+// Refused before anything is read.
+pub fn refused_with(refusal: Refusal) -> Loaded
+    ensures { result ≡ refused_with (number_of refusal) }
+{
+    Loaded {
+        refusal: refusal.number(),
+        ..Loaded::NONE
     }
 }
 
@@ -31,21 +42,18 @@ pub fn refused_with(refusal: u32) -> Loaded
 pub fn answer_of(r: Reader) -> Loaded
     ensures { result ≡ answered r }
 {
-    let wave = r.wave;
     let place = place_of(r);
     if place < 100 {
         return Loaded {
-            refusal: 0,
-            frames: wave.frames,
-            line: 0,
-            identifier: 0,
+            frames: r.wave.frames,
+            ..Loaded::NONE
         };
     }
     let refusal = (place - 100) % 4294967296;
     Loaded {
         refusal: refusal as u32,
-        frames: wave.frames,
+        frames: r.wave.frames,
         line: r.shown,
-        identifier: wave.identifier,
+        identifier: r.wave.identifier,
     }
 }

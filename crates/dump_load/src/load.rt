@@ -6,6 +6,7 @@ ghost use Rattle.dump_load.specs.Loading.{fits, loaded_of, answered, read_all};
 use crate::answer::{Loaded, answer_of, refused_with};
 use crate::begin::{first_reader, put_table};
 use dump_reader::{end_text, read_bytes};
+use rules::Refusal;
 
 // Whether so many words are a trace.
 pub fn frames_fit(words: usize) -> bool
@@ -14,10 +15,7 @@ pub fn frames_fit(words: usize) -> bool
     if words % 8 != 0 {
         return false;
     }
-    if words / 8 > 65536 {
-        return false;
-    }
-    true
+    words / 8 <= 65536
 }
 
 // A dump for a table and frames of good lengths: begin, one piece, end. The arrays of the reader stand here once.
@@ -43,7 +41,7 @@ pub fn load_dump(dump: &[u8], wires: &[u64], frames: &mut [u32]) -> Loaded
         if wires.len() == 258 {
             return read_dump(dump, wires, frames);
         }
-        return refused_with(5);
+        return refused_with(Refusal::SliceLength);
     }
-    refused_with(4)
+    refused_with(Refusal::TraceLength)
 }

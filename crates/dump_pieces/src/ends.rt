@@ -4,15 +4,8 @@ ghost use Rattle.dump_reader.specs.Machine.{finish};
 ghost use Rattle.dump_state.specs.Pieces.{held, behind_end, ended_state, end_of, Repeated};
 
 use dump_load::{Loaded, answer_of};
-use dump_reader::{Reader, end_text};
+use dump_reader::end_text;
 use dump_state::{Read, State, give_again, length_refusal, refuse};
-
-fn end_into(r: Reader, store: &mut [u64; 8468], digits: &[u8; 4096], frames: &mut [u32]) -> Reader
-    requires { length frames.old ≤ 524288 }
-    ensures { record { reader = result; store = store.new; digits = digits.now; frames = frames.new } ≡ finish (record { reader = r; store = store.old; digits = digits.now; frames = frames.old }) }
-{
-    end_text(r, store, digits, frames)
-}
 
 // What stands behind an end with this answer: 17 where it was accepted.
 fn behind_end(answer: Loaded) -> Loaded
@@ -24,8 +17,7 @@ fn behind_end(answer: Loaded) -> Loaded
     Loaded {
         refusal: 17,
         frames: answer.frames,
-        line: 0,
-        identifier: 0,
+        ..Loaded::NONE
     }
 }
 
@@ -33,15 +25,11 @@ fn take_end(mut state: State, frames: &mut [u32]) -> Read
     requires { length frames.old ≤ 524288 }
     ensures { (result ≡ ended_state state (finish (held state frames.old))) × (frames.new ≡ (finish (held state frames.old)).frames) }
 {
-    let digits = state.digits;
-    let reader = end_into(state.reader, &mut state.store, &digits, frames);
+    let reader = end_text(state.reader, &mut state.store, &state.digits, frames);
     let answer = answer_of(reader);
     let standing = behind_end(answer);
     state.reader = reader;
-    state.refusal = standing.refusal;
-    state.frames = standing.frames;
-    state.line = standing.line;
-    state.identifier = standing.identifier;
+    state.stand(standing);
     Read { state, answer }
 }
 
@@ -52,9 +40,8 @@ pub fn end(state: State, frames: &mut [u32]) -> Read
     if state.refusal != 0 {
         return give_again(state);
     }
-    let refusal = length_refusal(state.table, frames.len());
-    if refusal != 0 {
-        return refuse(state, refusal);
+    match length_refusal(state.table, frames.len()) {
+        Err(refusal) => refuse(state, refusal),
+        Ok(()) => take_end(state, frames),
     }
-    take_end(state, frames)
 }

@@ -24,7 +24,7 @@ use Rattle.dump_reader.specs.declared.word.Word.{Word}
 use Rattle.dump_reader.specs.declared.state.Reader.{Reader}
 use Rattle.dump_reader.specs.declared.changes.Changes.{Changes}
 use Rattle.dump_reader.specs.Machine.{All, no_word, number_word, with_word, place_of, refused, begun, vector_add, vector_digits, continued, continued_digits, new_line, end_change, end_word, closed_word, add_byte, lined, byte_step, step, feed}
-use Rattle.dump_reader.specs.Runs.{text_of, vector_of, put, Gathers, open_word, amid, Goes, past_blank, begun_as, Due, Scalar, vectored, Vectored}
+use Rattle.dump_reader.specs.Runs.{text_of, vector_of, put, Gathers, open_word, amid, Goes, past_blank, behind_word, begun_as, Due, Scalar, vectored, Vectored}
 use Rattle.dump_reader.proofs.Laws.{above-blanks, feed-refused}
 
 stepped : (a : All) (b : ℕ) → refused a.reader ≡ false → step a b ≡ byte_step a b
@@ -38,13 +38,9 @@ one_byte a bs i h g = rw (add-one, drop-cons bs i 0 h) (ap (λ (x : All). feed x
 
 -- BYTES OF ONE WORD
 module _ (bs : List ℕ) (i : ℕ) (inside : i < length bs) (full : blank (get_or bs i 0) ≡ false) where
-  pub text-more : (t t' : Text) (d : List ℕ) → t' ≡ text_add t (get_or bs i 0) → Gathers bs (text_of t) i d (text_of t') (i + 1) d
-  unfolding byte_step add_byte continued continued_digits refused place_of
-  text-more t t' d e a g = rw e (one_byte (put a (text_of t) d) bs i inside g ∙ simp full)
-
-  pub number_more : (n n' : Number) (d : List ℕ) → n' ≡ number_add n (get_or bs i 0) → Gathers bs (number_word n) i d (number_word n') (i + 1) d
-  unfolding byte_step add_byte continued continued_digits refused place_of
-  number_more n n' d e a g = rw e (one_byte (put a (number_word n) d) bs i inside g ∙ simp full)
+  pub gather_more : (w w' : Word) (d : List ℕ) → (w.class ≡ 0 → ⊥) → (w.class ≡ 4 → ⊥) → w' ≡ continued w (get_or bs i 0) → Gathers bs w i d w' (i + 1) d
+  unfolding byte_step add_byte continued_digits refused place_of
+  gather_more w w' d h k e a g = rw e (one_byte (put a w d) bs i inside g ∙ simp (full, ne_eqb w.class 0 h, ne_eqb w.class 4 k))
 
   pub vector-more : (k v : ℕ) (d : List ℕ) → k < 4096 → v ≡ value_of (get_or bs i 0) → (v ≡ 3 → ⊥) → Gathers bs (vector_of k) i d (vector_of (k + 1)) (i + 1) (set d k v)
   unfolding byte_step add_byte continued continued_digits vector_add vector_digits refused place_of
@@ -106,9 +102,6 @@ past-goes h c s d f bs p i z g w =
     ∙ ap (λ (k : ℕ). feed (amid h (past_blank c (c.at + 1) (get_or bs c.at 0)) s d f) (drop k bs)) (sym (past-at c (c.at + 1) (get_or bs c.at 0)))
 
 -- a word ends
-abbrev pub behind_word : Changes → Wave → Changes
-behind_word c v = record { at = c.at; line = c.line; started = c.started; shown = c.line; held = 0; wave = v }
-
 closed-word : (a : All) → (a.reader.word.class ≡ 0 → ⊥) → closed_word a ≡ end_word a
 unfolding closed_word
 closed-word a h = simp (ne_eqb a.reader.word.class 0 h)
@@ -201,11 +194,10 @@ unfolding past_blank
 behind-any true c v w u k b e = simp e
 behind-any false c v w u k b e = simp e
 
--- WHOLE WORDS
-pub other-class : (k b : ℕ) → (k ≡ 2 → ⊥) → (k ≡ 4 → ⊥) → begun_as k b ≡ begun_as 1 b
-unfolding begun_as
-other-class k b h g = simp (ne_eqb k 2 h, ne_eqb k 4 g)
+pub behind-past : (c x r : Changes) (v : Wave) (k b : ℕ) → x ≡ behind_word c v → r ≡ past_blank x k b → r ≡ past_blank (behind_word c v) k b
+behind-past c x r v k b e h = h ∙ ap (λ (y : Changes). past_blank y k b) e
 
+-- WHOLE WORDS
 pub by-past : (n : ℕ) (bs : List ℕ) (c r y : Changes) (k b : ℕ) (s d f s' d' f' : List ℕ) → r ≡ past_blank y k b → c.at ≤ k → k ≤ length bs → Goes n bs c s d f (past_blank y k b) s' d' f' → (c.at ≤ r.at) × (r.at ≤ length bs) × Goes n bs c s d f r s' d' f'
 by-past n bs c r y k b s d f s' d' f' e l m g = rw e (rw (past-at y k b) l, rw (past-at y k b) m, g)
 
@@ -297,14 +289,11 @@ vector-open c bs due n s d d' f k j e g h p q = word-run h c s d f bs due p 4 j 
 pub blank-one : (n : ℕ) (bs : List ℕ) (c r : Changes) (s d f : List ℕ) → r ≡ past_blank c (c.at + 1) (get_or bs c.at 0) → c.at < length bs → c.held ≡ 0 → c.wave.place < 100 → blank (get_or bs c.at 0) ≡ true → (c.at ≤ r.at) × (r.at ≤ length bs) × Goes n bs c s d f r s d f
 blank-one n bs c r s d f e i z g w = by-past n bs c r c (c.at + 1) (get_or bs c.at 0) s d f s d f e (omega arith) (omega arith) (λ h p q. past-goes h c s d f bs p i z g w)
 
-pub at-change : (p k b : ℕ) → p ≡ 20 → begun 20 b ≡ begun_as k b → (k ≡ 2 → ⊥) → (k ≡ 4 → ⊥) → begun p b ≡ begun_as 1 b
-at-change p k b e h x y = rw e (h ∙ other-class k b x y)
-
 pub as-class : (p k m b : ℕ) → begun p b ≡ begun_as k b → k ≡ m → begun p b ≡ begun_as m b
 as-class p k m b h e = rw e at h
 
-pub at-vector : (p k b : ℕ) → p ≡ 20 → begun 20 b ≡ begun_as k b → k ≡ 4 → begun p b ≡ begun_as 4 b
-at-vector p k b e h x = rw e (as-class 20 k 4 b h x)
+pub at-change : (p k m b : ℕ) → p ≡ 20 → begun 20 b ≡ begun_as k b → k ≡ m → begun p b ≡ begun_as m b
+at-change p k m b e h x = rw e (as-class 20 k m b h x)
 
 -- THE PIECE
 pub carried : (r : Reader) (s d f bs : List ℕ) (i n : ℕ) → i < length bs → refused r ≡ false → blank (get_or bs i 0) ≡ false → r.word.class ≡ 0 → r.head.place ≡ 20 → n ≡ bounded r.head.codes → (c : Changes) (s' d' f' : List ℕ) (w : Word) → w ≡ open_word c.held → Goes n bs (record { at = i; line = r.line; started = r.started; shown = r.shown; held = 0; wave = r.wave }) s d f c s' d' f' → feed (four_of r s d f) (drop i bs) ≡ feed (record { reader = record { line = c.line; started = c.started; shown = c.shown; word = w; head = r.head; wave = c.wave }; store = s'; digits = d'; frames = f' }) (drop c.at bs)

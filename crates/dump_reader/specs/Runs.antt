@@ -9,6 +9,8 @@ use Rattle.dump_change.specs.declared.wave.Wave.{Wave}
 use Rattle.dump_change.specs.Change as C
 use Rattle.dump_reader.specs.declared.word.Word.{Word}
 use Rattle.dump_reader.specs.declared.changes.Changes.{Changes}
+use Rattle.dump_reader.specs.declared.changes.Class.{Class}
+use Rattle.dump_reader.specs.declared.changes.Class.TheVariants.{Stamp, Vector, Other}
 use Rattle.dump_reader.specs.Machine.{no_scan, no_word, text_word, number_word, vector_word, refused, with_word, All, feed}
 
 abbrev pub text_of : Text → Word
@@ -41,6 +43,16 @@ past_blank c at b =
     cond (eqb b 10)
     (record { at = at; line = cond (ltb c.line 18446744073709551615) (c.line + 1) c.line; started = 0; shown = c.shown; held = c.held; wave = c.wave })
     (record { at = at; line = c.line; started = 1; shown = c.shown; held = c.held; wave = c.wave })
+
+-- behind a word, whose line is kept; no word is open
+abbrev pub behind_word : Changes → Wave → Changes
+behind_word c v = record { at = c.at; line = c.line; started = c.started; shown = c.line; held = 0; wave = v }
+
+-- a class as the number that a word keeps
+abbrev pub class_number : Class → ℕ
+class_number Other = 1
+class_number Stamp = 2
+class_number Vector = 4
 
 -- the first byte b of a word of class k
 unfoldable pub begun_as : ℕ → ℕ → Word

@@ -1,16 +1,15 @@
 // The changes, word after word: of the reader's state only what they change is at hand.
 ghost use Rattle.std.specs.Prelude.{true, false, List, ◌≡◌, ℕ, ◌≤◌, ◌<◌, length, get_or};
 ghost use Rattle.dump_reader.specs.Machine.{begun};
-ghost use Rattle.dump_reader.specs.Runs.{Goes, Due, Scalar, Vectored, past_blank, begun_as};
+ghost use Rattle.dump_reader.specs.Runs.{Goes, Due, Scalar, Vectored, past_blank, behind_word, class_number, begun_as};
 
-use crate::run::{number_run, text_run, vector_run};
+use crate::run::{gather_run, vector_run};
 use crate::state::is_blank;
 use dump_change::{Wave, change_word, value_of};
 use dump_find::find;
 use dump_values::change_bits;
-use dump_words::{Number, Text, add_text, text_is};
+use dump_words::{Keyword, Number, Text, add_text, text_is};
 
-#[repr(C)]
 #[derive(Clone, Copy)]
 pub struct Changes {
     pub at: usize,
@@ -18,7 +17,7 @@ pub struct Changes {
     pub line: u64,
     pub started: u64,
     pub shown: u64,
-    // 0 where no word is open, and 1 more than the digits of a vector that is.
+    // 0 where no word is open, and 1 more than the digits of a vector that is: the number of which `open_word` and `Due` of specs/Runs.antt speak, so no Option.
     pub held: u64,
     pub wave: Wave,
 }
@@ -27,38 +26,68 @@ pub struct Changes {
 fn past_blank(c: Changes, at: usize, b: u8) -> Changes
     ensures { result ≡ past_blank c at b }
 {
-    let mut r = c;
-    r.at = at;
     if b == 10 {
-        r.started = 0;
+        // No `saturating_add`, as in `new_line`.
         if c.line < 18446744073709551615 {
-            r.line = c.line + 1;
-            return r;
+            return Changes {
+                at,
+                line: c.line + 1,
+                started: 0,
+                ..c
+            };
         }
-        return r;
+        return Changes {
+            at,
+            started: 0,
+            ..c
+        };
     }
-    r.started = 1;
-    r
+    Changes {
+        at,
+        started: 1,
+        ..c
+    }
+}
+
+// Behind a word, with what it says; no word is open.
+fn behind_word(c: Changes, wave: Wave) -> Changes
+    ensures { result ≡ behind_word c wave }
+{
+    Changes {
+        shown: c.line,
+        held: 0,
+        wave,
+        ..c
+    }
+}
+
+// What a word is by its first byte.
+#[derive(Clone, Copy)]
+pub enum Class {
+    Stamp,
+    Vector,
+    // Its text is kept.
+    Other,
 }
 
 // The class of the word that begins with b.
-fn class_of(place: u64, b: u8) -> u64
+fn class_of(place: u64, b: u8) -> Class
     requires { 20 ≤ place }
-    ensures { begun place b ≡ begun_as result b }
+    ensures { begun place b ≡ begun_as (class_number result) b }
 {
     if place != 20 {
-        return 1;
+        return Class::Other;
     }
     if b == 35 {
-        return 2;
+        return Class::Stamp;
     }
     if b == 98 {
-        return 4;
+        return Class::Vector;
     }
     if b == 66 {
-        return 4;
+        return Class::Vector;
     }
-    1
+    Class::Other
 }
 
 // A scalar change that is good is made; of any other word nothing is.
@@ -109,7 +138,7 @@ fn vector_good(t: Text, count: usize, n: usize, store: &mut [u64], digits: &[u8]
     if t.plain != 1 {
         return false;
     }
-    if text_is(t, 4, 1684956452, 0) {
+    if text_is(t, Keyword::END) {
         return false;
     }
     let i = find(store, n, t.low);
@@ -132,19 +161,14 @@ fn vector_one(c: Changes, n: usize, bytes: &[u8], store: &mut [u64], digits: &mu
     requires { (length store.old ≡ 8468) × (n ≤ 1024) × (length digits.old ≡ 4096) × Due c bytes.now × (begun c.wave.place (get_or bytes.now c.at 0) ≡ begun_as 4 (get_or bytes.now c.at 0)) × (c.wave.place ≡ 20) }
     ensures { (c.at ≤ result.at) × (result.at ≤ length bytes.now) × ((f : List ℕ) → Goes n bytes.now c store.old digits.old f result store.new digits.new f) }
 {
-    let wave = c.wave;
-    let at = c.at;
-    let run = vector_run(bytes, at + 1, digits);
+    let run = vector_run(bytes, c.at + 1, digits);
     let to = run.at;
     let open = Changes {
         at: to,
-        line: c.line,
-        started: c.started,
-        shown: c.shown,
         held: run.count as u64 + 1,
-        wave,
+        ..c
     };
-    if wave.count != 0 {
+    if c.wave.count != 0 {
         return open;
     }
     if to >= bytes.len() {
@@ -161,65 +185,27 @@ fn vector_one(c: Changes, n: usize, bytes: &[u8], store: &mut [u64], digits: &mu
             return open;
         }
         if is_blank(e) {
-            let mut due = wave;
-            due.place = 21;
-            due.count = run.count as u64;
-            return past_blank(
-                Changes {
-                    at,
-                    line: c.line,
-                    started: c.started,
-                    shown: c.line,
-                    held: 0,
-                    wave: due,
-                },
-                from,
-                e,
-            );
+            let wave = Wave {
+                place: 21,
+                count: run.count as u64,
+                ..c.wave
+            };
+            return past_blank(behind_word(c, wave), from, e);
         }
         return open;
     }
     if is_blank(e) {
-        let none = Text {
-            length: 0,
-            low: 0,
-            high: 0,
-            plain: 1,
-        };
-        let first = add_text(none, b);
-        let code = text_run(first, bytes, from + 1);
+        let first = add_text(Text::EMPTY, b);
+        let code = gather_run(first, bytes, from + 1);
         let end = code.at;
         if end >= bytes.len() {
             return open;
         }
         let z = bytes[end];
-        let text = code.text;
         if is_blank(z) {
-            if vector_good(text, run.count, n, store, digits) {
-                let next = past_blank(
-                    Changes {
-                        at,
-                        line: c.line,
-                        started: c.started,
-                        shown: c.line,
-                        held: 0,
-                        wave,
-                    },
-                    from,
-                    e,
-                );
-                return past_blank(
-                    Changes {
-                        at: next.at,
-                        line: next.line,
-                        started: next.started,
-                        shown: next.line,
-                        held: 0,
-                        wave,
-                    },
-                    end + 1,
-                    z,
-                );
+            if vector_good(code.kept, run.count, n, store, digits) {
+                let next = past_blank(behind_word(c, c.wave), from, e);
+                return past_blank(behind_word(next, c.wave), end + 1, z);
             }
             return open;
         }
@@ -228,62 +214,47 @@ fn vector_one(c: Changes, n: usize, bytes: &[u8], store: &mut [u64], digits: &mu
     open
 }
 
+// A scalar that is good and ends in the piece.
+fn scalar_one(c: Changes, n: usize, bytes: &[u8], store: &mut [u64]) -> Changes
+    requires { (length store.old ≡ 8468) × (n ≤ 1024) × Due c bytes.now × (begun c.wave.place (get_or bytes.now c.at 0) ≡ begun_as 1 (get_or bytes.now c.at 0)) × (c.wave.place ≡ 20) }
+    ensures { (c.at ≤ result.at) × (result.at ≤ length bytes.now) × ((d f : List ℕ) → Goes n bytes.now c store.old d f result store.new d f) }
+{
+    let first = add_text(Text::EMPTY, bytes[c.at]);
+    let run = gather_run(first, bytes, c.at + 1);
+    let to = run.at;
+    if to >= bytes.len() {
+        return c;
+    }
+    let e = bytes[to];
+    if is_blank(e) {
+        if scalar_good(run.kept, n, store) {
+            return past_blank(behind_word(c, c.wave), to + 1, e);
+        }
+        return c;
+    }
+    c
+}
+
 // White space, a scalar that is good, or a vector, where a change is due.
 fn good_one(c: Changes, n: usize, bytes: &[u8], store: &mut [u64], digits: &mut [u8]) -> Changes
     requires { (length store.old ≡ 8468) × (n ≤ 1024) × (length digits.old ≡ 4096) × (c.at < length bytes.now) }
     ensures { (c.at ≤ result.at) × (result.at ≤ length bytes.now) × ((f : List ℕ) → Goes n bytes.now c store.old digits.old f result store.new digits.new f) }
 {
-    let wave = c.wave;
-    let at = c.at;
-    let b = bytes[at];
-    if wave.place != 20 {
+    let b = bytes[c.at];
+    if c.wave.place != 20 {
         return c;
     }
     if c.held != 0 {
         return c;
     }
     if is_blank(b) {
-        return past_blank(c, at + 1, b);
+        return past_blank(c, c.at + 1, b);
     }
-    let k = class_of(20, b);
-    if k == 2 {
-        return c;
+    match class_of(20, b) {
+        Class::Stamp => c,
+        Class::Vector => vector_one(c, n, bytes, store, digits),
+        Class::Other => scalar_one(c, n, bytes, store),
     }
-    if k == 4 {
-        return vector_one(c, n, bytes, store, digits);
-    }
-    let none = Text {
-        length: 0,
-        low: 0,
-        high: 0,
-        plain: 1,
-    };
-    let first = add_text(none, b);
-    let run = text_run(first, bytes, at + 1);
-    let to = run.at;
-    if to >= bytes.len() {
-        return c;
-    }
-    let e = bytes[to];
-    let text = run.text;
-    if is_blank(e) {
-        if scalar_good(text, n, store) {
-            return past_blank(
-                Changes {
-                    at,
-                    line: c.line,
-                    started: c.started,
-                    shown: c.line,
-                    held: 0,
-                    wave,
-                },
-                to + 1,
-                e,
-            );
-        }
-        return c;
-    }
-    c
 }
 
 // Changes one behind another.
@@ -298,6 +269,7 @@ fn past_good(
     ensures { (start.at ≤ result.at) × (result.at ≤ length bytes.now) × ((f : List ℕ) → Goes n bytes.now start store.old digits.old f result store.new digits.new f) }
 {
     let mut c = start;
+    // `good_one` answers how far it went, so the loop does not take the places one by one.
     while c.at < bytes.len() {
         let next = good_one(c, n, bytes, store, digits);
         if next.at == c.at {
@@ -319,38 +291,17 @@ fn past_text(
     requires { (length store.old ≡ 8468) × (n ≤ 1024) × (length digits.now ≡ 4096) × (length frames.old ≤ 524288) × Due c bytes.now × (begun c.wave.place (get_or bytes.now c.at 0) ≡ begun_as 1 (get_or bytes.now c.at 0)) }
     ensures { (c.at ≤ result.at) × (result.at ≤ length bytes.now) × Goes n bytes.now c store.old digits.now frames.old result store.new digits.now frames.new }
 {
-    let wave = c.wave;
-    let at = c.at;
-    let b = bytes[at];
-    let none = Text {
-        length: 0,
-        low: 0,
-        high: 0,
-        plain: 1,
-    };
-    let first = add_text(none, b);
-    let run = text_run(first, bytes, at + 1);
+    let first = add_text(Text::EMPTY, bytes[c.at]);
+    let run = gather_run(first, bytes, c.at + 1);
     let to = run.at;
     if to >= bytes.len() {
         return c;
     }
     let e = bytes[to];
-    let text = run.text;
-    let number = Number { value: 0, state: 0 };
     if is_blank(e) {
-        let next = change_word(wave, 1, text, number, 0, 0, n, store, digits, frames);
-        return past_blank(
-            Changes {
-                at,
-                line: c.line,
-                started: c.started,
-                shown: c.line,
-                held: 0,
-                wave: next,
-            },
-            to + 1,
-            e,
-        );
+        let number = Number::NONE;
+        let wave = change_word(c.wave, 1, run.kept, number, 0, 0, n, store, digits, frames);
+        return past_blank(behind_word(c, wave), to + 1, e);
     }
     c
 }
@@ -366,36 +317,16 @@ fn past_number(
     requires { (length store.old ≡ 8468) × (n ≤ 1024) × (length digits.now ≡ 4096) × (length frames.old ≤ 524288) × Due c bytes.now × (begun c.wave.place (get_or bytes.now c.at 0) ≡ begun_as 2 (get_or bytes.now c.at 0)) }
     ensures { (c.at ≤ result.at) × (result.at ≤ length bytes.now) × Goes n bytes.now c store.old digits.now frames.old result store.new digits.now frames.new }
 {
-    let wave = c.wave;
-    let at = c.at;
-    let none = Number { value: 0, state: 0 };
-    let run = number_run(none, bytes, at + 1);
+    let run = gather_run(Number::NONE, bytes, c.at + 1);
     let to = run.at;
     if to >= bytes.len() {
         return c;
     }
     let e = bytes[to];
-    let text = Text {
-        length: 0,
-        low: 0,
-        high: 0,
-        plain: 1,
-    };
-    let number = run.number;
     if is_blank(e) {
-        let next = change_word(wave, 2, text, number, 0, 0, n, store, digits, frames);
-        return past_blank(
-            Changes {
-                at,
-                line: c.line,
-                started: c.started,
-                shown: c.line,
-                held: 0,
-                wave: next,
-            },
-            to + 1,
-            e,
-        );
+        let text = Text::EMPTY;
+        let wave = change_word(c.wave, 2, text, run.kept, 0, 0, n, store, digits, frames);
+        return past_blank(behind_word(c, wave), to + 1, e);
     }
     c
 }
@@ -412,63 +343,25 @@ fn past_vector(
     requires { (length store.old ≡ 8468) × (n ≤ 1024) × (length digits.old ≡ 4096) × (length frames.old ≤ 524288) × Due c bytes.now × (begun c.wave.place (get_or bytes.now c.at 0) ≡ begun_as 4 (get_or bytes.now c.at 0)) }
     ensures { (c.at ≤ result.at) × (result.at ≤ length bytes.now) × Goes n bytes.now c store.old digits.old frames.old result store.new digits.new frames.new }
 {
-    let wave = c.wave;
-    let at = c.at;
-    let run = vector_run(bytes, at + 1, digits);
+    let run = vector_run(bytes, c.at + 1, digits);
     let to = run.at;
-    let held = run.count as u64 + 1;
+    let count = run.count as u64;
+    let open = Changes {
+        at: to,
+        held: count + 1,
+        ..c
+    };
     if to >= bytes.len() {
-        return Changes {
-            at: to,
-            line: c.line,
-            started: c.started,
-            shown: c.shown,
-            held,
-            wave,
-        };
+        return open;
     }
     let e = bytes[to];
-    let text = Text {
-        length: 0,
-        low: 0,
-        high: 0,
-        plain: 1,
-    };
-    let number = Number { value: 0, state: 0 };
     if is_blank(e) {
-        let next = change_word(
-            wave,
-            4,
-            text,
-            number,
-            run.count as u64,
-            0,
-            n,
-            store,
-            digits,
-            frames,
-        );
-        return past_blank(
-            Changes {
-                at,
-                line: c.line,
-                started: c.started,
-                shown: c.line,
-                held: 0,
-                wave: next,
-            },
-            to + 1,
-            e,
-        );
+        let text = Text::EMPTY;
+        let number = Number::NONE;
+        let wave = change_word(c.wave, 4, text, number, count, 0, n, store, digits, frames);
+        return past_blank(behind_word(c, wave), to + 1, e);
     }
-    Changes {
-        at: to,
-        line: c.line,
-        started: c.started,
-        shown: c.shown,
-        held,
-        wave,
-    }
+    open
 }
 
 // White space, or one word that ends in the piece.
@@ -483,29 +376,24 @@ fn past_one(
     requires { (length store.old ≡ 8468) × (n ≤ 1024) × (length digits.old ≡ 4096) × (length frames.old ≤ 524288) × (c.at < length bytes.now) }
     ensures { (c.at ≤ result.at) × (result.at ≤ length bytes.now) × Goes n bytes.now c store.old digits.old frames.old result store.new digits.new frames.new }
 {
-    let wave = c.wave;
-    let at = c.at;
-    let b = bytes[at];
-    if wave.place < 20 {
+    let b = bytes[c.at];
+    if c.wave.place < 20 {
         return c;
     }
-    if wave.place >= 100 {
+    if c.wave.place >= 100 {
         return c;
     }
     if c.held != 0 {
         return c;
     }
     if is_blank(b) {
-        return past_blank(c, at + 1, b);
+        return past_blank(c, c.at + 1, b);
     }
-    let k = class_of(wave.place, b);
-    if k == 2 {
-        return past_number(c, n, bytes, store, digits, frames);
+    match class_of(c.wave.place, b) {
+        Class::Stamp => past_number(c, n, bytes, store, digits, frames),
+        Class::Vector => past_vector(c, n, bytes, store, digits, frames),
+        Class::Other => past_text(c, n, bytes, store, digits, frames),
     }
-    if k == 4 {
-        return past_vector(c, n, bytes, store, digits, frames);
-    }
-    past_text(c, n, bytes, store, digits, frames)
 }
 
 // All that can be passed.
@@ -521,6 +409,7 @@ pub fn past_all(
     ensures { (start.at ≤ result.at) × (result.at ≤ length bytes.now) × Goes n bytes.now start store.old digits.old frames.old result store.new digits.new frames.new }
 {
     let mut c = start;
+    // `past_good` and `past_one` answer how far they went, so the loop does not take the places one by one.
     while c.at < bytes.len() {
         let d = past_good(c, n, bytes, store, digits);
         if d.at >= bytes.len() {

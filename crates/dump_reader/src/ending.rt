@@ -11,34 +11,24 @@ use dump_declare::at_place;
 fn is_complete(r: Reader) -> bool
     ensures { result ≡ complete r }
 {
-    let head = r.head;
-    let wave = r.wave;
-    if head.place != 20 {
+    if r.head.place != 20 {
         return false;
     }
-    if wave.place != 20 {
+    if r.wave.place != 20 {
         return false;
     }
-    if wave.dumping != 0 {
-        return false;
-    }
-    true
+    r.wave.dumping == 0
 }
 
 // What is answered of the end, in the last line.
 fn at_end(r: Reader, count: u64, place: u64, wave: Wave) -> Reader
     ensures { result ≡ refused_at r count place wave }
 {
-    let old = r.head;
-    let head = at_place(old, place);
-    let word = r.word;
     Reader {
-        line: r.line,
-        started: r.started,
         shown: count,
-        word,
-        head,
+        head: at_place(r.head, place),
         wave,
+        ..r
     }
 }
 
@@ -46,13 +36,10 @@ fn at_end(r: Reader, count: u64, place: u64, wave: Wave) -> Reader
 fn unfinished_at(r: Reader, count: u64) -> Reader
     ensures { result ≡ unfinished r count }
 {
-    let head = r.head;
-    let wave = r.wave;
-    if head.place == 20 {
-        let w = wave_at(wave, 110);
-        return at_end(r, count, 20, w);
+    if r.head.place == 20 {
+        return at_end(r, count, 20, wave_at(r.wave, 110));
     }
-    at_end(r, count, 110, wave)
+    at_end(r, count, 110, r.wave)
 }
 
 // The end closes the last stamp.
@@ -61,10 +48,8 @@ fn close_text(r: Reader, count: u64, store: &[u64], frames: &mut [u32]) -> Reade
     ensures { (digits : List ℕ) → record { reader = result; store = store.now; digits = digits; frames = frames.new } ≡ closing (record { reader = r; store = store.now; digits = digits; frames = frames.old }) count }
 {
     if is_complete(r) {
-        let head = r.head;
-        let old = r.wave;
-        let wave = close_stamp(old, store, frames);
-        return at_end(r, count, head.place, wave);
+        let wave = close_stamp(r.wave, store, frames);
+        return at_end(r, count, r.head.place, wave);
     }
     unfinished_at(r, count)
 }
@@ -88,8 +73,7 @@ pub fn end_text(r: Reader, store: &mut [u64], digits: &[u8], frames: &mut [u32])
         return r;
     }
     let count = count_lines(r);
-    let word = r.word;
-    if word.class == 0 {
+    if r.word.class == 0 {
         return finish_at(r, count, store, frames);
     }
     let s = end_word(r, store, digits, frames);

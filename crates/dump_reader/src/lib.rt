@@ -12,4 +12,4 @@ mod word_end;
 pub use ending::end_text;
 pub use piece::read_bytes;
 pub use state::{Reader, is_refused, place_of};
-pub use word::{Word, no_word};
+pub use word::Word;

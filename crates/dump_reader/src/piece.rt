@@ -6,7 +6,7 @@ ghost use Rattle.dump_reader.specs.Runs.{open_word};
 
 use crate::changes::{Changes, past_all};
 use crate::state::{Reader, is_blank, is_refused, new_line, place_of};
-use crate::word::{Word, add_byte, begin_word, no_word};
+use crate::word::{Word, add_byte, begin_word};
 use crate::word_end::end_word;
 use dump_find::bounded_count;
 
@@ -15,17 +15,12 @@ fn word_byte(r: Reader, b: u8, digits: &mut [u8]) -> Reader
     requires { length digits.old ≡ 4096 }
     ensures { (store frames : List ℕ) → record { reader = result; store = store; digits = digits.new; frames = frames } ≡ add_byte (record { reader = r; store = store; digits = digits.old; frames = frames }) b }
 {
-    let old = r.word;
-    let mut s = r;
-    if old.class == 0 {
-        let place = place_of(r);
-        let word = begin_word(place, b);
-        s.word = word;
-        return s;
+    if r.word.class == 0 {
+        let word = begin_word(place_of(r), b);
+        return Reader { word, ..r };
     }
-    let word = add_byte(old, b, digits);
-    s.word = word;
-    s
+    let word = add_byte(r.word, b, digits);
+    Reader { word, ..r }
 }
 
 // White space: it ends a word that is open.
@@ -33,8 +28,7 @@ fn blank_byte(r: Reader, b: u8, store: &mut [u64], digits: &[u8], frames: &mut [
     requires { (length store.old ≡ 8468) × (length digits.now ≡ 4096) × (length frames.old ≤ 524288) }
     ensures { record { reader = result; store = store.new; digits = digits.now; frames = frames.new } ≡ lined (closed_word (record { reader = r; store = store.old; digits = digits.now; frames = frames.old })) b }
 {
-    let word = r.word;
-    if word.class == 0 {
+    if r.word.class == 0 {
         return new_line(r, b);
     }
     let s = end_word(r, store, digits, frames);
@@ -56,12 +50,10 @@ fn read_byte(r: Reader, b: u8, store: &mut [u64], digits: &mut [u8], frames: &mu
 fn begins_change(r: Reader, b: u8) -> bool
     ensures { result ≡ true → (r.word.class ≡ 0) × (r.head.place ≡ 20) × (refused r ≡ false) × (blank b ≡ false) }
 {
-    let word = r.word;
-    let head = r.head;
-    if word.class != 0 {
+    if r.word.class != 0 {
         return false;
     }
-    if head.place != 20 {
+    if r.head.place != 20 {
         return false;
     }
     if is_refused(r) {
@@ -77,13 +69,14 @@ fn begins_change(r: Reader, b: u8) -> bool
 fn open_word(held: u64) -> Word
     ensures { result ≡ open_word held }
 {
-    let mut w = no_word();
     if held == 0 {
-        return w;
+        return Word::NONE;
     }
-    w.class = 4;
-    w.count = held - 1;
-    w
+    Word {
+        class: 4,
+        count: held - 1,
+        ..Word::NONE
+    }
 }
 
 #[repr(C)]
@@ -105,33 +98,24 @@ fn all_changes(
     requires { (length store.old ≡ 8468) × (length digits.old ≡ 4096) × (length frames.old ≤ 524288) × (from < length bytes.now) × (r.word.class ≡ 0) × (r.head.place ≡ 20) × (refused r ≡ false) × (blank (get_or bytes.now from 0) ≡ false) }
     ensures { (from ≤ result.at) × (result.at ≤ length bytes.now) × (feed (record { reader = r; store = store.old; digits = digits.old; frames = frames.old }) (drop from bytes.now) ≡ feed (record { reader = result.reader; store = store.new; digits = digits.new; frames = frames.new }) (drop result.at bytes.now)) }
 {
-    let head = r.head;
-    let wave = r.wave;
-    let n = bounded_count(head.codes);
-    let c = past_all(
-        Changes {
-            at: from,
-            line: r.line,
-            started: r.started,
-            shown: r.shown,
-            held: 0,
-            wave,
-        },
-        n,
-        bytes,
-        store,
-        digits,
-        frames,
-    );
+    let n = bounded_count(r.head.codes);
+    let start = Changes {
+        at: from,
+        line: r.line,
+        started: r.started,
+        shown: r.shown,
+        held: 0,
+        wave: r.wave,
+    };
+    let c = past_all(start, n, bytes, store, digits, frames);
     let word = open_word(c.held);
-    let last = c.wave;
     let reader = Reader {
         line: c.line,
         started: c.started,
         shown: c.shown,
         word,
-        head,
-        wave: last,
+        wave: c.wave,
+        ..r
     };
     Position { at: c.at, reader }
 }
@@ -171,6 +155,7 @@ pub fn read_bytes(
 {
     let mut s = r;
     let mut i = 0;
+    // `ahead` answers how far it went, so the loop does not take the places one by one.
     while i < bytes.len() {
         let p = ahead(s, bytes, i, store, digits, frames);
         let at = p.at;

@@ -7,6 +7,7 @@ use crate::word::Word;
 use dump_change::Wave;
 use dump_declare::Head;
 
+// Part of a reader's state, which the C host hands over with any bytes in it: so `started` is a number, and no bool.
 #[repr(C)]
 #[derive(Clone, Copy)]
 pub struct Reader {
@@ -41,12 +42,10 @@ pub fn is_blank(b: u8) -> bool
 pub fn place_of(r: Reader) -> u64
     ensures { result ≡ place_of r }
 {
-    let head = r.head;
-    let wave = r.wave;
-    if head.place == 20 {
-        return wave.place;
+    if r.head.place == 20 {
+        return r.wave.place;
     }
-    head.place
+    r.head.place
 }
 
 pub fn is_refused(r: Reader) -> bool
@@ -59,32 +58,29 @@ pub fn is_refused(r: Reader) -> bool
 pub fn new_line(r: Reader, b: u8) -> Reader
     ensures { result ≡ new_line r b }
 {
-    let mut s = r;
     if b == 10 {
-        s.started = 0;
+        // No `saturating_add`: its proof needs that the line is a number of 64 bits, which a proof does not know of a struct's field.
         if r.line < 18446744073709551615 {
-            s.line = r.line + 1;
-            return s;
+            return Reader {
+                line: r.line + 1,
+                started: 0,
+                ..r
+            };
         }
-        return s;
+        return Reader { started: 0, ..r };
     }
-    s.started = 1;
-    s
+    Reader { started: 1, ..r }
 }
 
 // The line count of the text so far.
 pub fn count_lines(r: Reader) -> u64
     ensures { result ≡ count_lines r }
 {
-    let word = r.word;
-    if word.class != 0 {
+    if r.word.class != 0 {
         return r.line;
     }
     if r.started != 0 {
         return r.line;
     }
-    if r.line == 0 {
-        return 0;
-    }
-    r.line - 1
+    r.line.saturating_sub(1)
 }

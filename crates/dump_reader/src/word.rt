@@ -1,12 +1,12 @@
 // What is kept of the word that is read.
 ghost use Rattle.std.specs.Prelude.{◌≡◌, length};
 ghost use Rattle.dump.specs.Changes.{value_of};
-ghost use Rattle.dump_words.specs.Gather.{no_number, number_add};
-ghost use Rattle.dump_reader.specs.Machine.{no_word, text_word, number_word, scan_word, name_scan, range_scan, begun_change, begun, vector_add, vector_digits, continued, continued_digits};
+ghost use Rattle.dump_reader.specs.Machine.{text_word, number_word, scan_word, name_scan, range_scan, begun_change, begun, vector_add, vector_digits, continued, continued_digits};
 
 use dump_change::value_of;
 use dump_words::{Number, Scan, Text, add_digit, add_scan, add_text};
 
+// Part of a reader's state, which the C host hands over with any bytes in it: so its class is a number, and no enum that holds what is kept of it.
 #[repr(C)]
 #[derive(Clone, Copy)]
 pub struct Word {
@@ -20,130 +20,70 @@ pub struct Word {
     pub scan: Scan,
 }
 
-// No word is open.
-pub fn no_word() -> Word
-    ensures { result ≡ no_word }
-{
-    let left = Number { value: 0, state: 0 };
-    let right = Number { value: 0, state: 0 };
-    let number = Number { value: 0, state: 0 };
-    let text = Text {
-        length: 0,
-        low: 0,
-        high: 0,
-        plain: 1,
-    };
-    let scan = Scan {
-        kind: 0,
-        counts: 0,
-        phase: 0,
-        left,
-        right,
-    };
-    Word {
+impl Word {
+    // No word is open.
+    pub const NONE: Word = Word {
         class: 0,
         count: 0,
         wrong: 0,
-        text,
-        number,
-        scan,
-    }
+        text: Text::EMPTY,
+        number: Number::NONE,
+        scan: Scan::NONE,
+    };
 }
 
 fn text_word(b: u8) -> Word
     ensures { result ≡ text_word b }
 {
-    let mut w = no_word();
-    let none = w.text;
-    let text = add_text(none, b);
-    w.class = 1;
-    w.text = text;
-    w
+    Word {
+        class: 1,
+        text: add_text(Text::EMPTY, b),
+        ..Word::NONE
+    }
 }
 
 // A number: of a width from its first byte on, of a stamp behind it.
 fn number_word(number: Number) -> Word
     ensures { result ≡ number_word number }
 {
-    let mut w = no_word();
-    w.class = 2;
-    w.number = number;
-    w
-}
-
-fn width_word(b: u8) -> Word
-    ensures { result ≡ number_word (number_add no_number b) }
-{
-    let none = Number { value: 0, state: 0 };
-    let n = add_digit(none, b);
-    number_word(n)
+    Word {
+        class: 2,
+        number,
+        ..Word::NONE
+    }
 }
 
 fn scan_word(b: u8, scan: Scan) -> Word
     ensures { result ≡ scan_word b scan }
 {
-    let mut w = text_word(b);
-    w.class = 3;
-    w.scan = scan;
-    w
+    Word {
+        class: 3,
+        scan,
+        ..text_word(b)
+    }
 }
 
 fn name_word(b: u8) -> Word
     ensures { result ≡ scan_word b (name_scan b) }
 {
-    let left = Number { value: 0, state: 0 };
-    let right = Number { value: 0, state: 0 };
+    let none = Scan::NONE;
     if b == 92 {
-        return scan_word(
-            b,
-            Scan {
-                kind: 1,
-                counts: 0,
-                phase: 0,
-                left,
-                right,
-            },
-        );
+        return scan_word(b, Scan { kind: 1, ..none });
     }
-    scan_word(
-        b,
-        Scan {
-            kind: 0,
-            counts: 1,
-            phase: 0,
-            left,
-            right,
-        },
-    )
+    scan_word(b, Scan { counts: 1, ..none })
 }
 
 fn range_word(b: u8) -> Word
     ensures { result ≡ scan_word b (range_scan b) }
 {
-    let left = Number { value: 0, state: 0 };
-    let right = Number { value: 0, state: 0 };
+    let none = Scan {
+        kind: 2,
+        ..Scan::NONE
+    };
     if b == 91 {
-        return scan_word(
-            b,
-            Scan {
-                kind: 2,
-                counts: 0,
-                phase: 1,
-                left,
-                right,
-            },
-        );
+        return scan_word(b, Scan { phase: 1, ..none });
     }
-    scan_word(
-        b,
-        Scan {
-            kind: 2,
-            counts: 0,
-            phase: 0,
-            left,
-            right,
-        },
-    )
+    scan_word(b, none)
 }
 
 // The first byte of a word where a change is due.
@@ -151,17 +91,17 @@ fn begin_change(b: u8) -> Word
     ensures { result ≡ begun_change b }
 {
     if b == 35 {
-        return number_word(Number { value: 0, state: 0 });
+        return number_word(Number::NONE);
     }
+    let vector = Word {
+        class: 4,
+        ..Word::NONE
+    };
     if b == 98 {
-        let mut w = no_word();
-        w.class = 4;
-        return w;
+        return vector;
     }
     if b == 66 {
-        let mut w = no_word();
-        w.class = 4;
-        return w;
+        return vector;
     }
     text_word(b)
 }
@@ -174,7 +114,7 @@ pub fn begin_word(place: u64, b: u8) -> Word
         return begin_change(b);
     }
     if place == 8 {
-        return width_word(b);
+        return number_word(add_digit(Number::NONE, b));
     }
     if place == 10 {
         return name_word(b);
@@ -188,21 +128,19 @@ pub fn begin_word(place: u64, b: u8) -> Word
 fn add_value(w: Word, v: u8) -> Word
     ensures { result ≡ vector_add w v }
 {
-    let mut r = w;
+    let wrong = if v == 3 { 1 } else { w.wrong };
     if w.count < 4096 {
-        r.count = w.count + 1;
-        if v == 3 {
-            r.wrong = 1;
-            return r;
-        }
-        return r;
+        return Word {
+            count: w.count + 1,
+            wrong,
+            ..w
+        };
     }
-    r.count = 4097;
-    if v == 3 {
-        r.wrong = 1;
-        return r;
+    Word {
+        count: 4097,
+        wrong,
+        ..w
     }
-    r
 }
 
 // One more digit of a vector.
@@ -227,21 +165,18 @@ pub fn add_byte(w: Word, b: u8, digits: &mut [u8]) -> Word
         return add_vector(w, b, digits);
     }
     if w.class == 2 {
-        let old = w.number;
-        let number = add_digit(old, b);
-        let mut r = w;
-        r.number = number;
-        return r;
+        return Word {
+            number: add_digit(w.number, b),
+            ..w
+        };
     }
-    let old = w.text;
-    let text = add_text(old, b);
-    let mut r = w;
-    r.text = text;
+    let text = add_text(w.text, b);
     if w.class == 3 {
-        let before = w.scan;
-        let scan = add_scan(before, b);
-        r.scan = scan;
-        return r;
+        return Word {
+            text,
+            scan: add_scan(w.scan, b),
+            ..w
+        };
     }
-    r
+    Word { text, ..w }
 }

@@ -6,25 +6,23 @@ ghost use Rattle.dump_change.specs.Change.{word_wave, word_store, word_frames};
 ghost use Rattle.dump_reader.specs.Machine.{ended, first_wave, last_place, last_store, end_word};
 
 use crate::state::Reader;
-use crate::word::no_word;
+use crate::word::Word;
 use dump_change::{Wave, change_word};
 use dump_declare::{Head, at_place, declaration};
 use dump_find::bounded_count;
 use dump_values::{connect, table_good};
-use dump_words::{Text, text_is};
+use dump_words::{Keyword, Text, text_is};
 
 // Behind the word; its line is kept for a refusal.
 fn behind(r: Reader, head: Head, wave: Wave) -> Reader
     ensures { result ≡ ended r head wave }
 {
-    let word = no_word();
     Reader {
-        line: r.line,
-        started: r.started,
         shown: r.line,
-        word,
+        word: Word::NONE,
         head,
         wave,
+        ..r
     }
 }
 
@@ -33,13 +31,8 @@ fn end_declaration(r: Reader, store: &mut [u64]) -> Reader
     ensures { (result ≡ ended r (declaration_head r.head r.word.text r.word.number r.word.scan store.old) r.wave) × (store.new ≡ declaration_store r.head r.word.text r.word.scan store.old) }
 {
     let word = r.word;
-    let text = word.text;
-    let number = word.number;
-    let scan = word.scan;
-    let old = r.head;
-    let wave = r.wave;
-    let head = declaration(old, text, number, scan, store);
-    behind(r, head, wave)
+    let head = declaration(r.head, word.text, word.number, word.scan, store);
+    behind(r, head, r.wave)
 }
 
 // Which place follows the `$end` of `$enddefinitions`, or the word in its place.
@@ -47,7 +40,7 @@ fn last_place(h: Head, t: Text, store: &[u64]) -> u64
     requires { length store.now ≡ 8468 }
     ensures { result ≡ last_place h t store.now }
 {
-    if text_is(t, 4, 1684956452, 0) {
+    if text_is(t, Keyword::END) {
         let n = bounded_count(h.codes);
         if table_good(store, n) {
             return 20;
@@ -74,19 +67,11 @@ fn end_last(r: Reader, store: &mut [u64]) -> Reader
     requires { length store.old ≡ 8468 }
     ensures { (result ≡ ended r (at r.head (last_place r.head r.word.text store.old)) first_wave) × (store.new ≡ last_store r.head r.word.text store.old) }
 {
-    let word = r.word;
-    let text = word.text;
-    let old = r.head;
-    let place = connect_last(old, text, store);
-    let head = at_place(old, place);
+    let place = connect_last(r.head, r.word.text, store);
+    let head = at_place(r.head, place);
     let wave = Wave {
         place: 20,
-        identifier: 0,
-        dumping: 0,
-        count: 0,
-        stamped: 0,
-        stamp: 0,
-        frames: 0,
+        ..Wave::START
     };
     behind(r, head, wave)
 }
@@ -96,26 +81,30 @@ fn end_change(r: Reader, store: &mut [u64], digits: &[u8], frames: &mut [u32]) -
     ensures { (result ≡ ended r r.head (word_wave r.wave r.word.class r.word.text r.word.number r.word.count r.word.wrong (bounded r.head.codes) store.old frames.old)) × (store.new ≡ word_store r.wave r.word.class r.word.text r.word.number (bounded r.head.codes) store.old digits.now frames.old) × (frames.new ≡ word_frames r.wave r.word.class r.word.number store.old frames.old) }
 {
     let word = r.word;
-    let text = word.text;
-    let number = word.number;
-    let head = r.head;
-    let old = r.wave;
-    let n = bounded_count(head.codes);
+    let n = bounded_count(r.head.codes);
     let wave = change_word(
-        old, word.class, text, number, word.count, word.wrong, n, store, digits, frames,
+        r.wave,
+        word.class,
+        word.text,
+        word.number,
+        word.count,
+        word.wrong,
+        n,
+        store,
+        digits,
+        frames,
     );
-    behind(r, head, wave)
+    behind(r, r.head, wave)
 }
 
 pub fn end_word(r: Reader, store: &mut [u64], digits: &[u8], frames: &mut [u32]) -> Reader
     requires { (length store.old ≡ 8468) × (length digits.now ≡ 4096) × (length frames.old ≤ 524288) }
     ensures { record { reader = result; store = store.new; digits = digits.now; frames = frames.new } ≡ end_word (record { reader = r; store = store.old; digits = digits.now; frames = frames.old }) }
 {
-    let head = r.head;
-    if head.place == 20 {
+    if r.head.place == 20 {
         return end_change(r, store, digits, frames);
     }
-    if head.place == 13 {
+    if r.head.place == 13 {
         return end_last(r, store);
     }
     end_declaration(r, store)

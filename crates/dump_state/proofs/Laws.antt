@@ -1,5 +1,5 @@
 -- Laws of the state and of what a call tests, which the proofs of the calls cite. Assumes nothing.
-use mathlib.Core.Path.{◌≡◌, refl, ◌∙◌, sym}
+use mathlib.Core.Path.{◌≡◌, refl, ◌∙◌, sym, ap}
 use mathlib.Core.Bool.{Bool, true, false, cond}
 use mathlib.Core.List.{List}
 use Prim.Native.Nat.{ℕ, ◌≤◌}
@@ -7,12 +7,17 @@ use native.Mathlib.Omega.{arith}
 use lib.Dec.{eqb}
 use lib.ListN.{length, replicate}
 use borrow.Author.Tests.{eq-eqb, ne_eqb}
+use Rattle.std.specs.Prelude.{Result, Ok, Err}
+use Rattle.rules.specs.declared.refusal.Refusal.{Refusal}
+use Rattle.rules.specs.Refusals.{number_of, refusal_of}
+use Rattle.rules.proofs.Refusals.{is-refused}
 use Rattle.dump_reader.specs.declared.state.Reader.{Reader}
-use Rattle.dump_load.specs.Loading.{fits, first_reader, table_from}
+use Rattle.dump_load.specs.declared.answer.Loaded.{Loaded}
+use Rattle.dump_load.specs.Loading.{fits, refused_with, first_reader, table_from}
 use Rattle.dump_load.proofs.Laws.{fits-most}
 use Rattle.dump_state.specs.declared.state.State.{State}
 use Rattle.dump_state.specs.declared.state.Read.{Read}
-use Rattle.dump_state.specs.Pieces.{first_state, begun, Given, again, length_refusal, refusing, tested, Repeated}
+use Rattle.dump_state.specs.Pieces.{first_state, begun, Given, answering, again, length_refusal, refusing, tested, Repeated}
 
 -- BEGIN
 pub first_made : (table : ℕ) (store : List ℕ) (r : Reader) → r ≡ first_reader
@@ -40,10 +45,14 @@ module _ (s : State) (frames : List ℕ) (free : s.refusal ≡ 0) where
   unfolding tested
   tested_reads reads h = rw (eq-eqb s.refusal 0 free, eq-eqb due 0 h) refl
 
+-- and it stands
+pub refusal-stands : (s t : State) (a : Loaded) (r : ℕ) → a ≡ refused_with r → t ≡ answering s a → record { state = t; answer = a } ≡ refusing s r
+refusal-stands s t a r e f = rw (f, e) refl
+
 -- A CALL, by its tests
-pub fit-most : (table words r : ℕ) → r ≡ length_refusal table words → r ≡ 0 → words ≤ 524288
+pub fit-most : (table words : ℕ) (r : Result (Unit {0}) Refusal) (x : Unit {0}) → refusal_of r ≡ length_refusal table words → r ≡ Ok x → words ≤ 524288
 unfolding length_refusal
-fit-most table words r e z = go (fits words) refl (sym e ∙ z)
+fit-most table words r x e z = go (fits words) refl (sym e ∙ ap refusal_of z)
   where
     go : (t : Bool) → fits words ≡ t → ◌≡◌ {A = ℕ} (cond t (cond (eqb table 0) 0 5) 4) 0 → words ≤ 524288
     go true f q = fits-most words f
@@ -57,10 +66,12 @@ module _ (s : State) (frames : List ℕ) (reads : Given) (r : Read) where
   unfolding tested
   answers-again h e = rw (ne_eqb s.refusal 0 h) (e, refl, record { same_read = λ z. e; same_frames = λ z. refl })
 
-  pub answers-refused : s.refusal ≡ 0 → (d : ℕ) → d ≡ length_refusal s.table (length frames) → (d ≡ 0 → ⊥) → r ≡ refusing s d → Answers (tested s frames reads) s r frames frames
-  answers-refused free d e h f =
-      rw (tested-refuses s frames free reads (λ z. h (e ∙ z)), ← e) (f, refl, record { same_read = λ z. absurd (z free); same_frames = λ z. refl })
+  module _ (free : s.refusal ≡ 0) (d : Result (Unit {0}) Refusal) (e : refusal_of d ≡ length_refusal s.table (length frames)) where
+    pub answers-refused : (x : Refusal) → d ≡ Err x → r ≡ refusing s (number_of x) → Answers (tested s frames reads) s r frames frames
+    answers-refused x g f =
+        let n : number_of x ≡ length_refusal s.table (length frames) = sym (ap refusal_of g) ∙ e in
+        rw (tested-refuses s frames free reads (λ z. let o = is-refused x in omega (arith, o, n, z)), ← n) (f, refl, record { same_read = λ z. absurd (z free); same_frames = λ z. refl })
 
-  pub answers-read : s.refusal ≡ 0 → (d : ℕ) → d ≡ length_refusal s.table (length frames) → d ≡ 0 → (after : List ℕ) → r ≡ reads.read → after ≡ reads.frames → Answers (tested s frames reads) s r frames after
-  answers-read free d e z after f g =
-      rw (tested_reads s frames free reads (sym e ∙ z)) (f, g, record { same_read = λ y. absurd (y free); same_frames = λ y. absurd (y free) })
+    pub answers-read : (x : Unit {0}) → d ≡ Ok x → (after : List ℕ) → r ≡ reads.read → after ≡ reads.frames → Answers (tested s frames reads) s r frames after
+    answers-read x g after f h =
+        rw (tested_reads s frames free reads (sym e ∙ ap refusal_of g)) (f, h, record { same_read = λ y. absurd (y free); same_frames = λ y. absurd (y free) })

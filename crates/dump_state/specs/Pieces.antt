@@ -27,6 +27,11 @@ abbrev pub behind : State → All → Loaded → State
 behind s a answer =
     record { refusal = answer.refusal; table = s.table; frames = answer.frames; line = answer.line; identifier = answer.identifier; reader = a.reader; store = a.store; digits = a.digits }
 
+-- a state with another answer that stands
+abbrev pub answering : State → Loaded → State
+answering s answer =
+    record { refusal = answer.refusal; table = s.table; frames = answer.frames; line = answer.line; identifier = answer.identifier; reader = s.reader; store = s.store; digits = s.digits }
+
 -- THE TESTS. "A call tests first whether the dump is over or refused": the answer that stands is given again, and alters neither state nor frames.
 abbrev pub standing : State → Loaded
 standing s = record { refusal = s.refusal; frames = s.frames; line = s.line; identifier = s.identifier }

@@ -1,8 +1,12 @@
 // What a reader keeps from call to call, and what a call gives.
+ghost use Rattle.std.specs.Prelude.{◌≡◌};
+ghost use Rattle.dump_state.specs.Pieces.{answering};
+
 use dump_load::Loaded;
 use dump_reader::Reader;
 
-// Every byte belongs to a number, so that any bytes are a state, and a state that is given back as it was has the same bytes.
+// The C host hands it over with any bytes in it and compares what it gets back: so every byte belongs to a number, its flags are numbers and no enums, and
+// its arrays stand in it.
 #[repr(C)]
 #[derive(Clone, Copy)]
 pub struct State {
@@ -16,6 +20,18 @@ pub struct State {
     pub reader: Reader,
     pub store: [u64; 8468],
     pub digits: [u8; 4096],
+}
+
+impl State {
+    // This answer stands from now on.
+    pub fn stand(&mut self, answer: Loaded)
+        ensures { self.new ≡ answering self.old answer }
+    {
+        self.refusal = answer.refusal;
+        self.frames = answer.frames;
+        self.line = answer.line;
+        self.identifier = answer.identifier;
+    }
 }
 
 // What a piece and the end give.

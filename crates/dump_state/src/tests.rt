@@ -1,21 +1,23 @@
 // What a call tests before it reads.
 ghost use Rattle.std.specs.Prelude.{◌≡◌};
+ghost use Rattle.rules.specs.Refusals.{number_of, refusal_of};
 ghost use Rattle.dump_state.specs.Pieces.{length_refusal, again, refusing};
 
 use crate::state::{Read, State};
 use dump_load::{Loaded, frames_fit, refused_with};
+use rules::Refusal;
 
-// The refusal of the frames or of the table by their lengths, or 0.
-pub fn length_refusal(table: u32, words: usize) -> u32
-    ensures { result ≡ length_refusal table words }
+// Whether the frames, and then the table, are refused by their lengths.
+pub fn length_refusal(table: u32, words: usize) -> Result<(), Refusal>
+    ensures { refusal_of result ≡ length_refusal table words }
 {
     if frames_fit(words) {
         if table == 0 {
-            return 0;
+            return Ok(());
         }
-        return 5;
+        return Err(Refusal::SliceLength);
     }
-    4
+    Err(Refusal::TraceLength)
 }
 
 // The answer that stands, given again.
@@ -35,13 +37,10 @@ pub fn give_again(state: State) -> Read
 }
 
 // A refusal by a length, which stands from now on.
-pub fn refuse(mut state: State, refusal: u32) -> Read
-    ensures { result ≡ refusing state refusal }
+pub fn refuse(mut state: State, refusal: Refusal) -> Read
+    ensures { result ≡ refusing state (number_of refusal) }
 {
-    state.refusal = refusal;
-    state.frames = 0;
-    state.line = 0;
-    state.identifier = 0;
     let answer = refused_with(refusal);
+    state.stand(answer);
     Read { state, answer }
 }

@@ -30,6 +30,7 @@ fn change_entry(store: &mut [u64], digits: &[u8], count: usize, x: u64, e: usize
     put_value(store, e, v);
 }
 
+// A code has one word of the store for the two ends of its span, and the store is laid out for the C host: so a span is a number.
 fn span_start(span: u64) -> usize
     ensures { result ≡ span_start span }
 {
@@ -46,16 +47,16 @@ fn span_end(span: u64) -> usize
     129
 }
 
+// docs/CLAIMS.md names `change_bits` with a contract over any slice of the store's length, so the length stays a clause and no array type carries it.
 // The wire with code x, declared at place i, has changed to the first `count` digits.
 pub fn change_bits(store: &mut [u64], digits: &[u8], count: usize, x: u64, i: usize)
     requires { (length store.old ≡ 8468) × (0 < count) × (count ≤ length digits.now) × (i < 1024) }
     ensures { store.new ≡ bits_changed store.old digits.now count x i }
 {
     let span = store[5120 + i];
-    let mut e = span_start(span);
+    let from = span_start(span);
     let to = span_end(span);
-    while e < to {
+    for e in from..to {
         change_entry(store, digits, count, x, e);
-        e += 1;
     }
 }

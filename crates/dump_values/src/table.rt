@@ -40,6 +40,7 @@ fn good_entry(store: &[u64], n: usize, e: usize) -> bool
     between(store[8193 + 2 * e], store[3072 + i], store[4096 + i])
 }
 
+// docs/CLAIMS.md names `table_good` with a contract over any slice of the store's length, so the length stays a clause and no array type carries it.
 // Whether the clock is connected, and every entry is good where it is.
 pub fn table_good(store: &[u64], n: usize) -> bool
     requires { (length store.now ≡ 8468) × (n ≤ 1024) }
@@ -48,11 +49,8 @@ pub fn table_good(store: &[u64], n: usize) -> bool
     if store[8192] == 0 {
         return false;
     }
-    let mut e = 0;
-    while e < 129 {
-        if good_entry(store, n, e) {
-            e += 1;
-        } else {
+    for e in 0..129 {
+        if !good_entry(store, n, e) {
             return false;
         }
     }
@@ -107,14 +105,13 @@ fn connect_entry(store: &mut [u64], n: usize, e: usize)
     connected_entry(store, e, i);
 }
 
+// docs/CLAIMS.md names `connect` with a contract over any slice of the store's length, so the length stays a clause and no array type carries it.
 // Every entry, in order: the place of its digit, its span, and that it has no value yet.
 pub fn connect(store: &mut [u64], n: usize)
     requires { (length store.old ≡ 8468) × (n ≤ 1024) }
     ensures { store.new ≡ connect_from store.old n 0 129 }
 {
-    let mut e = 0;
-    while e < 129 {
+    for e in 0..129 {
         connect_entry(store, n, e);
-        e += 1;
     }
 }

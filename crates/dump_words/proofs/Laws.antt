@@ -1,16 +1,17 @@
 -- Laws that the proofs of the word's parts cite. Assumes nothing.
-use mathlib.Core.Path.{◌≡◌, refl, ◌∙◌, sym, ap}
+use mathlib.Core.Path.{◌≡◌, ◌∙◌, sym, ap}
 use mathlib.Core.Bool.{Bool, true, false, ◌||◌}
-use mathlib.Core.List.{List, [], ◌∷◌}
-use Prim.Native.Nat.{ℕ, suc, ◌+◌, ◌-◌, ◌*◌, ◌^◌, ◌<◌, ◌≤◌}
+use mathlib.Core.List.{List}
+use Prim.Native.Nat.{ℕ, ◌+◌, ◌-◌, ◌*◌, ◌^◌, ◌<◌, ◌≤◌}
 use native.Mathlib.Omega.{arith}
 use native.Mathlib.Numerals.{add-one}
 use lib.Dec.{ltb}
-use lib.ListN.{length, get_or, drop, drop_of_length-le, length-drop}
+use lib.ListN.{length, get_or, drop, drop_of_length-le}
 use lib.Seq.{drop-cons}
 use borrow.Author.Tests.{lt-ltb, le-ltb}
 use Rattle.dump_words.specs.declared.text.Text.{Text}
-use Rattle.dump_words.specs.Gather.{text_is, text_in}
+use Rattle.dump_words.specs.declared.text.Keyword.{Keyword}
+use Rattle.dump_words.specs.Gather.{text_is, text_in, numbers_of}
 
 -- when ten times a number and a digit are above 64 bits, by the tests that stay within them
 pub far-above : (v d : ℕ) → 1844674407370955161 < v → ltb (v * 10 + d) (2 ^ 64) ≡ false
@@ -23,36 +24,18 @@ pub within : (v d : ℕ) → d ≤ 9 → v * 10 ≤ 18446744073709551615 - d →
 within v d h k = lt-ltb (v * 10 + d) (2 ^ 64) (omega arith)
 
 -- a list of words from its place i on
-short : (t : Text) (l : List ℕ) → length l < 3 → text_in t l ≡ false
-unfolding text_in
-short t [] h = refl
-short t (a ∷ []) h = refl
-short t (a ∷ b ∷ []) h = refl
-short t (a ∷ b ∷ d ∷ l) h = absurd (omega arith)
-
-module _ (t : Text) (list : List ℕ) (i : ℕ) (inv : text_in t list ≡ text_in t (drop i list)) where
-  pub none_left : length list - i < 3 → false ≡ text_in t list
-  none_left h = sym (inv ∙ short t (drop i list) (rw (length-drop i list) h))
-
-  pub at-end : length list ≤ i → false ≡ text_in t list
-  at-end h = sym (inv ∙ short t (drop i list) (rw (drop_of_length-le list h) (omega arith)))
-
-  three : i + 3 ≤ length list → drop i list ≡ get_or list i 0 ∷ get_or list (suc i) 0 ∷ get_or list (suc (suc i)) 0 ∷ drop (suc (suc (suc i))) list
-  three h =
-      drop-cons list i 0 (omega arith)
-      ∙ ap (λ (l : List ℕ). get_or list i 0 ∷ l) (drop-cons list (suc i) 0 (omega arith))
-      ∙ ap (λ (l : List ℕ). get_or list i 0 ∷ get_or list (suc i) 0 ∷ l) (drop-cons list (suc (suc i)) 0 (omega arith))
-
-  next : i + 3 ≤ length list → text_in t (drop i list) ≡ text_is t (get_or list i 0) (get_or list (i + 1) 0) (get_or list (i + 2) 0) || text_in t (drop (i + 3) list)
+module _ (t : Text) (list : List Keyword) (i : ℕ) (inv : text_in t (numbers_of list) ≡ text_in t (numbers_of (drop i list))) where
+  pub at-end : length list ≤ i → false ≡ text_in t (numbers_of list)
   unfolding text_in
-  next h =
-      let one : i + 1 ≡ suc i = omega arith in
-      let two : i + 2 ≡ suc (suc i) = omega arith in
-      let more : i + 3 ≡ suc (suc (suc i)) = omega arith in
-      rw (one, two, more) (ap (text_in t) (three h))
+  at-end h = sym (inv ∙ ap (λ (l : List Keyword). text_in t (numbers_of l)) (drop_of_length-le list h))
 
-  pub found : 3 ≤ length list - i → text_is t (get_or list i 0) (get_or list (i + 1) 0) (get_or list (i + 2) 0) ≡ true → true ≡ text_in t list
-  found h e = sym (inv ∙ next (omega arith) ∙ ap (λ (b : Bool). b || text_in t (drop (i + 3) list)) e)
+  module _ (d : Keyword) (h : i < length list) where
+    next : text_in t (numbers_of (drop i list)) ≡ text_is t (get_or list i d).0 (get_or list i d).1 (get_or list i d).2 || text_in t (numbers_of (drop (i + 1) list))
+    unfolding text_in
+    next = rw (add-one i) (ap (λ (l : List Keyword). text_in t (numbers_of l)) (drop-cons list i d h))
 
-  pub further : 3 ≤ length list - i → text_is t (get_or list i 0) (get_or list (i + 1) 0) (get_or list (i + 2) 0) ≡ false → text_in t list ≡ text_in t (drop (i + 3) list)
-  further h e = inv ∙ next (omega arith) ∙ ap (λ (b : Bool). b || text_in t (drop (i + 3) list)) e
+    pub found : text_is t (get_or list i d).0 (get_or list i d).1 (get_or list i d).2 ≡ true → true ≡ text_in t (numbers_of list)
+    found e = sym (inv ∙ next ∙ ap (λ (b : Bool). b || text_in t (numbers_of (drop (i + 1) list))) e)
+
+    pub further : text_is t (get_or list i d).0 (get_or list i d).1 (get_or list i d).2 ≡ false → text_in t (numbers_of list) ≡ text_in t (numbers_of (drop (i + 1) list))
+    further e = inv ∙ next ∙ ap (λ (b : Bool). b || text_in t (numbers_of (drop (i + 1) list))) e

@@ -2,6 +2,7 @@
 use Rattle.std.specs.Prelude.{Bool, true, false, cond, not, ◌&&◌, ◌||◌, List, [], ◌∷◌, ℕ, suc, ◌+◌, ◌-◌, ◌*◌, ◌%◌, ◌^◌, eqb, ltb, leb}
 use Rattle.std.specs.Int.Bits.{bit_or}
 use Rattle.dump_words.specs.declared.text.Text.{Text}
+use Rattle.dump_words.specs.declared.text.Keyword.{Keyword}
 use Rattle.dump_words.specs.declared.number.Number.{Number}
 use Rattle.dump_words.specs.declared.scan.Scan.{Scan}
 
@@ -27,6 +28,11 @@ text_in t [] = false
 text_in t (n ∷ []) = false
 text_in t (n ∷ l ∷ []) = false
 text_in t (n ∷ l ∷ h ∷ list) = text_is t n l h || text_in t list
+
+-- the three numbers of each word of a list
+abbrev pub numbers_of : List Keyword → List ℕ
+numbers_of [] = []
+numbers_of (k ∷ list) = k.0 ∷ k.1 ∷ k.2 ∷ numbers_of list
 
 -- DECIMAL NUMBERS: state 0 no digit yet, 1 a number, 2 one above 64 bits, 3 no number
 abbrev pub no_number : Number

@@ -2,12 +2,18 @@
 ghost use Rattle.std.specs.Prelude.{◌≡◌};
 ghost use Rattle.dump_words.specs.Gather.{number_add};
 
+// Part of a reader's state, which the C host hands over with any bytes in it: so its state is a number, and no enum.
 #[repr(C)]
 #[derive(Clone, Copy)]
 pub struct Number {
     pub value: u64,
     // 0 no digit yet, 1 a number, 2 one above 64 bits, 3 no number.
     pub state: u64,
+}
+
+impl Number {
+    // No digit yet.
+    pub const NONE: Number = Number { value: 0, state: 0 };
 }
 
 // One more byte.

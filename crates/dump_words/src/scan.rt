@@ -4,6 +4,7 @@ ghost use Rattle.dump_words.specs.Gather.{scan_add, counts_after, left_digit, le
 
 use crate::number::{Number, add_digit};
 
+// Part of a reader's state, which the C host hands over with any bytes in it: so its kind and its phase are numbers, and no enums.
 #[repr(C)]
 #[derive(Clone, Copy)]
 pub struct Scan {
@@ -15,6 +16,17 @@ pub struct Scan {
     pub phase: u64,
     pub left: Number,
     pub right: Number,
+}
+
+impl Scan {
+    // Nothing is read yet.
+    pub const NONE: Scan = Scan {
+        kind: 0,
+        counts: 0,
+        phase: 0,
+        left: Number::NONE,
+        right: Number::NONE,
+    };
 }
 
 fn counts_after(kind: u64, b: u8) -> u64
@@ -41,45 +53,23 @@ fn phase_of(n: Number, phase: u64) -> u64
 fn left_digit(s: Scan, b: u8) -> Scan
     ensures { result ≡ left_digit s b }
 {
-    let left = s.left;
-    let right = s.right;
-    let l = add_digit(left, b);
-    let phase = phase_of(l, 1);
-    Scan {
-        kind: s.kind,
-        counts: s.counts,
-        phase,
-        left: l,
-        right,
-    }
+    let left = add_digit(s.left, b);
+    let phase = phase_of(left, 1);
+    Scan { phase, left, ..s }
 }
 
 // A byte behind the opening bracket, which is no bracket of that sort.
 fn add_left(s: Scan, b: u8) -> Scan
     ensures { result ≡ left_add s b }
 {
-    let left = s.left;
-    let right = s.right;
-    if left.state == 0 {
+    if s.left.state == 0 {
         return left_digit(s, b);
     }
     if b == 58 {
-        return Scan {
-            kind: s.kind,
-            counts: s.counts,
-            phase: 2,
-            left,
-            right,
-        };
+        return Scan { phase: 2, ..s };
     }
     if b == 93 {
-        return Scan {
-            kind: s.kind,
-            counts: s.counts,
-            phase: 3,
-            left,
-            right,
-        };
+        return Scan { phase: 3, ..s };
     }
     left_digit(s, b)
 }
@@ -87,36 +77,20 @@ fn add_left(s: Scan, b: u8) -> Scan
 fn right_digit(s: Scan, b: u8) -> Scan
     ensures { result ≡ right_digit s b }
 {
-    let left = s.left;
-    let right = s.right;
-    let r = add_digit(right, b);
-    let phase = phase_of(r, 2);
-    Scan {
-        kind: s.kind,
-        counts: s.counts,
-        phase,
-        left,
-        right: r,
-    }
+    let right = add_digit(s.right, b);
+    let phase = phase_of(right, 2);
+    Scan { phase, right, ..s }
 }
 
 // A byte behind the colon, which is no opening bracket.
 fn add_right(s: Scan, b: u8) -> Scan
     ensures { result ≡ right_add s b }
 {
-    let left = s.left;
-    let right = s.right;
-    if right.state == 0 {
+    if s.right.state == 0 {
         return right_digit(s, b);
     }
     if b == 93 {
-        return Scan {
-            kind: s.kind,
-            counts: s.counts,
-            phase: 4,
-            left,
-            right,
-        };
+        return Scan { phase: 4, ..s };
     }
     right_digit(s, b)
 }
@@ -125,47 +99,27 @@ fn add_right(s: Scan, b: u8) -> Scan
 pub fn add_scan(s: Scan, b: u8) -> Scan
     ensures { result ≡ scan_add s b }
 {
-    let counts = counts_after(s.kind, b);
-    let left = s.left;
-    let right = s.right;
-    if b == 91 {
-        let none = Number { value: 0, state: 0 };
-        let none2 = Number { value: 0, state: 0 };
-        if s.counts == 1 {
-            return Scan {
-                kind: s.kind,
-                counts,
-                phase: 1,
-                left: none,
-                right: none2,
-            };
-        }
-        return Scan {
-            kind: s.kind,
-            counts,
-            phase: 0,
-            left: none,
-            right: none2,
-        };
-    }
     let t = Scan {
-        kind: s.kind,
-        counts,
-        phase: s.phase,
-        left,
-        right,
+        counts: counts_after(s.kind, b),
+        ..s
     };
+    if b == 91 {
+        let none = Scan {
+            phase: 0,
+            left: Number::NONE,
+            right: Number::NONE,
+            ..t
+        };
+        if s.counts == 1 {
+            return Scan { phase: 1, ..none };
+        }
+        return none;
+    }
     if s.phase == 1 {
         return add_left(t, b);
     }
     if s.phase == 2 {
         return add_right(t, b);
     }
-    Scan {
-        kind: s.kind,
-        counts,
-        phase: 0,
-        left,
-        right,
-    }
+    Scan { phase: 0, ..t }
 }

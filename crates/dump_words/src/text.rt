@@ -1,7 +1,8 @@
 // The first sixteen bytes of a word, its length up to 17, and whether it could be a code.
 ghost use Rattle.std.specs.Prelude.{◌≡◌};
-ghost use Rattle.dump_words.specs.Gather.{text_add, plain_after, text_is, text_in};
+ghost use Rattle.dump_words.specs.Gather.{text_add, plain_after, text_is, text_in, numbers_of};
 
+// Part of a reader's state, which the C host hands over with any bytes in it: so its fields are numbers, and no enum.
 #[repr(C)]
 #[derive(Clone, Copy)]
 pub struct Text {
@@ -12,6 +13,25 @@ pub struct Text {
     pub high: u64,
     // 1 while every byte is one of 33 to 126.
     pub plain: u64,
+}
+
+impl Text {
+    // Of a word with no byte yet.
+    pub const EMPTY: Text = Text {
+        length: 0,
+        low: 0,
+        high: 0,
+        plain: 1,
+    };
+}
+
+// A word of at most sixteen bytes: its length, its first eight bytes and its next eight, as a text has them.
+#[derive(Clone, Copy)]
+pub struct Keyword(pub u64, pub u64, pub u64);
+
+impl Keyword {
+    // $end
+    pub const END: Keyword = Keyword(4, 1684956452, 0);
 }
 
 fn plain_after(plain: u64, b: u8) -> u64
@@ -37,56 +57,47 @@ pub fn add_text(t: Text, b: u8) -> Text
         return Text {
             length: n + 1,
             low,
-            high: t.high,
             plain,
+            ..t
         };
     }
     if n < 16 {
         let high = t.high | ((b as u64) << (8 * (n - 8)));
         return Text {
             length: n + 1,
-            low: t.low,
             high,
             plain,
+            ..t
         };
     }
     Text {
         length: 17,
-        low: t.low,
-        high: t.high,
         plain,
+        ..t
     }
 }
 
-// Whether the word is the one of this length and these bytes.
-pub fn text_is(t: Text, length: u64, low: u64, high: u64) -> bool
-    ensures { result ≡ text_is t length low high }
+// Whether the word is this one.
+pub fn text_is(t: Text, k: Keyword) -> bool
+    ensures { result ≡ text_is t k.0 k.1 k.2 }
 {
-    if t.length != length {
+    if t.length != k.0 {
         return false;
     }
-    if t.low != low {
+    if t.low != k.1 {
         return false;
     }
-    if t.high != high {
-        return false;
-    }
-    true
+    t.high == k.2
 }
 
-// Whether the word is one of a list: three numbers of each, as above.
-pub fn one_of(t: Text, list: &[u64]) -> bool
-    ensures { result ≡ text_in t list.now }
+// Whether the word is one of a list.
+pub fn one_of(t: Text, list: &[Keyword]) -> bool
+    ensures { result ≡ text_in t (numbers_of list.now) }
 {
-    let mut i = 0;
-    while i < list.len() {
-        if list.len() - i < 3 {
-            return false;
-        }
-        if text_is(t, list[i], list[i + 1], list[i + 2]) {
+    for k in list {
+        if text_is(t, *k) {
             return true;
         }
-        i += 3;
     }
     false
 }

@@ -1,12 +1,13 @@
 // The refusal of an edit: of its lengths and of its range.
 ghost use Rattle.std.specs.Prelude.{List, ◌≡◌, ℕ, ◌-◌, ◌*◌, eqb, length};
 ghost use Rattle.rules.specs.Frame.{frame_words};
+ghost use Rattle.rules.specs.Refusals.{refusal_of};
 ghost use Rattle.edit_samples.specs.Samples.{edit_refusal};
 
 use lengths::lengths_refusal;
-use rules::{Config, FRAME_WORDS};
+use rules::{Config, FRAME_WORDS, Refusal};
 
-// The refusal of a configuration, of the lengths of a trace, its record and an edit's samples, and of the edit's range: 0, or 1 to 6.
+// Refuses a configuration, the lengths of a trace, its record and an edit's samples, or the edit's range.
 pub fn edit_refusal(
     c: Config,
     trace: usize,
@@ -15,20 +16,17 @@ pub fn edit_refusal(
     a: usize,
     b: usize,
     samples: usize,
-) -> u32
-    ensures { (ts rs ws ss : List ℕ) → length ts ≡ trace → length rs ≡ rows → length ws ≡ words → length ss ≡ samples → result ≡ edit_refusal c ts rs ws a b ss }
+) -> Result<(), Refusal>
+    ensures { (ts rs ws ss : List ℕ) → length ts ≡ trace → length rs ≡ rows → length ws ≡ words → length ss ≡ samples → refusal_of result ≡ edit_refusal c ts rs ws a b ss }
 {
-    let refused = lengths_refusal(c, trace, rows, words);
-    if refused != 0 {
-        return refused;
-    }
+    lengths_refusal(c, trace, rows, words)?;
     if !samples_fit(samples, a, b) {
-        return 5;
+        return Err(Refusal::SliceLength);
     }
     if !((a <= b) & (b <= rows)) {
-        return 6;
+        return Err(Refusal::EditRange);
     }
-    0
+    Ok(())
 }
 
 // Whether so many words are the samples of cycles a to b-1: none where a is above b.

@@ -7,10 +7,5 @@ pub fn swap_words(trace: &mut [u32], first: usize, samples: &mut [u32])
     requires { first + length samples.old ≤ length trace.old }
     ensures { Swapped trace.old samples.old first trace.new samples.new }
 {
-    for i in 0..samples.len() {
-        let at = first + i;
-        let old = trace[at];
-        trace[at] = samples[i];
-        samples[i] = old;
-    }
+    trace[first..first + samples.len()].swap_with_slice(samples);
 }

@@ -1,14 +1,27 @@
 -- The answers of `edit_and_take_back`, from the contracts of the calls before each return. What §12 says of them is the claim `takes_back`, of the trace with the samples in it and of
 -- the trace as it was. Assumes nothing.
-use Prim.Native.Nat.{ℕ, ◌+◌, ◌*◌, ◌≤◌}
+use Prim.Native.Nat.{ℕ, ◌+◌, ◌-◌, ◌*◌, ◌≤◌}
 use mathlib.Core.Path.{◌≡◌, refl, sym, ap, ◌∙◌}
+use mathlib.Core.Bool.{Bool, true, false, ◌&&◌, cond}
 use mathlib.Core.List.{List}
 use native.Mathlib.Omega.{arith}
-use lib.ListN.{length}
+use lib.Dec.{eqb, leb, lit≤}
+use lib.IntN.{pos}
+use lib.ListN.{length, replicate}
+use Rattle.std.specs.Prelude.{Err}
+use Rattle.rules.specs.declared.refusal.Refusal.{Refusal}
+use Rattle.rules.specs.Refusals.{number_of, cycle_named}
+use Rattle.rules.specs.Rules.{marks}
+use Rattle.rules.proofs.Refusals.{is-refused, no-cycle}
 use Rattle.rules.specs.declared.config.Config.{Config}
 use Rattle.rules.specs.Frame.{frame_words}
 use Rattle.trace.specs.Traces.{frames, frame_at}
+use Rattle.lengths.specs.Lengths.{check_refusal}
+use Rattle.recheck.specs.declared.edit.Rechecked.{Rechecked}
 use Rattle.recheck.specs.declared.edit.RecheckResult.{RecheckResult}
+use Rattle.recheck.specs.Answers.{numbers_of}
+use Rattle.recheck_refusals.proofs.Refusals.{check-low}
+use Rattle.edit_samples.specs.Samples.{edit_refusal}
 use Rattle.edit_samples.proofs.Refusals.{Editable}
 use Rattle.edit_samples.proofs.Swaps.{trace-back, samples-back}
 use Rattle.two_edits.specs.TwoEdits.{Held, Edit}
@@ -16,19 +29,34 @@ use Rattle.two_edits.proofs.Claims.{takes_back}
 use Rattle.edited.specs.Edits.{NotDone}
 use Rattle.edited.specs.Back.{SwappedAndRechecked, refusal_of, Spoiled, BackAnswer}
 use Rattle.edited.proofs.Stores.{written-edited}
+use Rattle.edited.proofs.Answers.{not_done}
 use Rattle.edited.proofs.Alike.{refused-alike, named-alike}
 
-pub refused : (config : Config) (old : Held) (a b : ℕ) (samples : List ℕ) {r : ℕ} {none : RecheckResult} → r ≡ refusal_of config old a b samples → (r ≡ 0 → ⊥)
-    → NotDone r none.refusal none.cycle none.end none.changes → BackAnswer config a b samples samples old old none none
-refused config old a b samples is h none_is =
-    let same = rw is at none_is in
+-- no test of an edit before its rechecks names a cycle
+edit-low : (config : Config) (old : Held) (a b : ℕ) (samples : List ℕ) → refusal_of config old a b samples ≤ 6
+unfolding edit_refusal
+edit-low config old a b samples =
+    by (eqb (check_refusal config old.trace old.rows old.words) 0) (eqb (length samples) (frame_words * (b - a))) (leb a b && leb b (frames old.trace))
+  where
+    by : (p q s : Bool) → cond p (cond q (cond s 0 6) 5) (check_refusal config old.trace old.rows old.words) ≤ 6
+    by true true true = lit≤ tt
+    by true true false = lit≤ tt
+    by true false s = lit≤ tt
+    by false q s = check-low config old.trace old.rows old.words a b
+
+pub refused : (config : Config) (old : Held) (a b : ℕ) (samples : List ℕ) (e : Refusal) → number_of e ≡ refusal_of config old a b samples
+    → BackAnswer config a b samples samples old old (numbers_of (Err e)) (numbers_of (Err e))
+refused config old a b samples e is =
+    let some = is-refused e in
+    let same : NotDone (refusal_of config old a b samples) (number_of e) (cycle_named e) 0 (replicate marks (pos 0)) =
+    rw (no-cycle {A = Rechecked} (Err e) _ is (omega (arith, edit-low config old a b samples))) (not_done is) in
     record {
       trace_kept = refl;
       samples_kept = refl;
       refused = λ _. record { rows_kept = refl; words_kept = refl; first_is = same; second_is = same };
-      done = λ z. absurd (h (is ∙ z));
-      spoiled = λ z _. absurd (h (is ∙ z));
-      taken_back = λ z _. absurd (h (is ∙ z));
+      done = λ z. absurd (omega arith);
+      spoiled = λ z _. absurd (omega arith);
+      taken_back = λ z _. absurd (omega arith);
     }
 
 module _ {config : Config} {old : Held} {a b : ℕ} {samples : List ℕ} (ok : Editable config old.trace old.rows old.words a b samples) where

@@ -1,12 +1,11 @@
 // A caller that makes an edit and takes it back, with a recheck after each. Its proof uses the contracts of the calls alone.
 ghost use Rattle.std.specs.Prelude.{◌+◌, ◌*◌, ◌≤◌, length};
 ghost use Rattle.rules.specs.Frame.{frame_words};
-ghost use Rattle.edited.specs.Edits.{NotDone};
 ghost use Rattle.edited.specs.Back.{SwappedAndRechecked, BackAnswer};
 
 use edit_samples::{edit_refusal, swap_words};
 use recheck::{RecheckResult, recheck};
-use rules::{Config, FRAME_WORDS, MARKS};
+use rules::{Config, FRAME_WORDS};
 
 // The answers of two rechecks: after an edit, and after it was taken back.
 #[repr(C)]
@@ -30,9 +29,16 @@ pub fn edit_and_take_back(
 ) -> BothResults
     ensures { BackAnswer c a b samples.old samples.new (record { trace = trace.old; rows = rows.old; words = words.old }) (record { trace = trace.new; rows = rows.new; words = words.new }) result.edit result.back }
 {
-    let refused = edit_refusal(c, trace.len(), rows.len(), words.len(), a, b, samples.len());
-    if refused != 0 {
-        let none = not_done(refused);
+    if let Err(refusal) = edit_refusal(
+        c,
+        trace.len(),
+        rows.len(),
+        words.len(),
+        a,
+        b,
+        samples.len(),
+    ) {
+        let none = RecheckResult::from(Err(refusal));
         return BothResults {
             edit: none,
             back: none,
@@ -41,18 +47,6 @@ pub fn edit_and_take_back(
     let edit = swap_and_recheck(c, trace, rows, words, a, b, samples);
     let back = swap_and_recheck(c, trace, rows, words, a, b, samples);
     BothResults { edit, back }
-}
-
-// The answer of a recheck that was not made.
-fn not_done(refusal: u32) -> RecheckResult
-    ensures { NotDone refusal result.refusal result.cycle result.end result.changes }
-{
-    RecheckResult {
-        refusal,
-        cycle: 0,
-        end: 0,
-        changes: [0; MARKS],
-    }
 }
 
 // The samples change places with those of the trace from cycle a on, and cycles a to b-1 are rechecked.
@@ -69,5 +63,5 @@ fn swap_and_recheck(
     ensures { SwappedAndRechecked c a b samples.old samples.new (record { trace = trace.old; rows = rows.old; words = words.old }) (record { trace = trace.new; rows = rows.new; words = words.new }) result }
 {
     swap_words(trace, FRAME_WORDS * a, samples);
-    recheck(c, trace, rows, words, a, b)
+    RecheckResult::from(recheck(c, trace, rows, words, a, b))
 }

@@ -4,13 +4,15 @@
 mod back;
 
 ghost use Rattle.std.specs.Prelude.{◌<◌};
+ghost use Rattle.rules.specs.Refusals.{refusal_of, cycle_of};
 ghost use Rattle.trace.specs.Traces.{frames};
+ghost use Rattle.recheck.specs.Answers.{end_of, changes_of};
 ghost use Rattle.edited.specs.Edits.{Stored, Replaced};
 
 pub use back::{BothResults, edit_and_take_back};
-use recheck::{RecheckResult, recheck};
+use recheck::{Rechecked, recheck};
 use record::full_check;
-use rules::{Config, FRAME_WORDS, Frame, MARKS};
+use rules::{Config, FRAME_WORDS, Frame, Refusal};
 
 // The frame of cycle t becomes the given one.
 fn store_frame(trace: &mut [u32], t: usize, frame: Frame)
@@ -18,14 +20,11 @@ fn store_frame(trace: &mut [u32], t: usize, frame: Frame)
     ensures { Stored trace.old trace.new t frame }
 {
     let first = FRAME_WORDS * t;
-    let samples = frame.samples;
-    for i in 0..FRAME_WORDS {
-        trace[first + i] = samples[i];
-    }
+    trace[first..first + FRAME_WORDS].copy_from_slice(&frame.samples);
 }
 
-// Fills the record of the trace, replaces the frame of cycle t, and rechecks that cycle. Where the trace is refused or has no such cycle, the answer is the
-// refusal number of the full check or 6, and the trace is as it was.
+// Fills the record of the trace, replaces the frame of cycle t, and rechecks that cycle. Refused as the full check is, or with 6 where the trace has no such cycle:
+// the trace is as it was.
 pub fn replace_frame(
     c: Config,
     trace: &mut [u32],
@@ -33,25 +32,12 @@ pub fn replace_frame(
     words: &mut [u64],
     t: usize,
     frame: Frame,
-) -> RecheckResult
-    ensures { Replaced c trace.old rows.old words.old t frame trace.new rows.new words.new result.refusal result.cycle result.end result.changes }
+) -> Result<Rechecked, Refusal>
+    ensures { Replaced c trace.old rows.old words.old t frame trace.new rows.new words.new (refusal_of result) (cycle_of result) (end_of result) (changes_of result) }
 {
-    let refused = full_check(c, trace, rows, words);
-    if refused != 0 {
-        return RecheckResult {
-            refusal: refused,
-            cycle: 0,
-            end: 0,
-            changes: [0; MARKS],
-        };
-    }
+    full_check(c, trace, rows, words)?;
     if rows.len() <= t {
-        return RecheckResult {
-            refusal: 6,
-            cycle: 0,
-            end: 0,
-            changes: [0; MARKS],
-        };
+        return Err(Refusal::EditRange);
     }
     store_frame(trace, t, frame);
     recheck(c, trace, rows, words, t, t + 1)

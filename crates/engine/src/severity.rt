@@ -1,9 +1,10 @@
 // The severity decides which run there is, and whether the stretch stops. It is not offered to the viewer.
 ghost use Rattle.trace.specs.Stretches.{Runnable, Ran};
 
+use families::run_family;
 use fatal_engine::run_fatal;
-use going_engine::{fill, seek};
 use rules::{Config, FATAL};
+use runs::{Fill, Seek};
 use trace::{Reached, Stretch};
 
 // Runs a stretch of a trace into lent rows and words. The severity and the kind are looked at once for the stretch, and each family has loops of its own, in which the
@@ -20,11 +21,11 @@ pub fn run(c: Config, trace: &[u32], rows: &mut [u32], words: &mut [u64], s: Str
         if fatal {
             return run_fatal(c, trace, rows, words, s);
         }
-        seek(c, trace, rows, words, s)
+        run_family::<Seek>(c, trace, rows, words, s)
     } else {
         if fatal {
             return run_fatal(c, trace, rows, words, s);
         }
-        fill(c, trace, rows, words, s)
+        run_family::<Fill>(c, trace, rows, words, s)
     }
 }

@@ -22,6 +22,7 @@ pub fn write_attempts(lost: u64, t: usize, list: &mut [u32], at: usize) -> usize
 {
     let mut rest = lost;
     let mut next = at;
+    // It goes over the ones of a word, from the highest down, which is neither a range nor a slice.
     while rest != 0 {
         let j = 63 - u64::leading_zeros(rest);
         next = write_entry(t, 1, t - 1 - j as usize, list, next);

@@ -10,7 +10,7 @@ use bus::Range;
 use rules::Config;
 
 // The wires of P, and those of them that are 1 where P has the expected value.
-#[derive(Clone, Copy)]
+#[derive(Clone, Copy, Debug, PartialEq, Eq)]
 pub struct Expected {
     pub mask: u32,
     pub wires: u32,

@@ -11,17 +11,25 @@ use borrow.Author.Tests.{eq-eqb, le-leb, lt-leb}
 use lib.Dec.{eqb, leb}
 use lib.ListN.{length, drop, replicate, length-replicate}
 use lib.Seq.{sets, sets-eq}
+use Rattle.std.specs.Prelude.{Result, IsErrAnd}
+use Rattle.std.proofs.lemmas.Result.{err_from_is_err_and}
 use Rattle.bits.proofs.Tests.{is_true}
 use Rattle.rules.specs.declared.config.Config.{Config}
+use Rattle.rules.specs.declared.refusal.Refusal.{Refusal}
 use Rattle.rules.specs.Config.{config_refusal, Good}
 use Rattle.rules.specs.Frame.{frame_words}
+use Rattle.rules.specs.Refusals.{number_of, refusal_of}
 use Rattle.trace.specs.Traces.{frames, trace_fits}
 use Rattle.lengths.specs.Lengths.{record_fits, check_refusal}
 use Rattle.lengths.proofs.Refusals.{Accepted, check-accepted, accepted-short}
 use Rattle.listed.specs.Lists.{words_of}
 use Rattle.passes.specs.Listed.{failures_of}
-use Rattle.failures.specs.Answers.{list_refusal, ListAnswer}
+use Rattle.failures.specs.Answers.{list_refusal, count_of, ListAnswer}
 use Rattle.listed.proofs.Chosen.{words_length}
+
+-- what holds of the refusal's number and of no entries holds of the answer that `?` passes up
+pub passed-up : (r : Result ℕ Refusal) (e : Refusal) → IsErrAnd r (λ y. y ≡ e) → (P : ℕ → ℕ → Type 0) → P (number_of e) 0 → P (refusal_of r) (count_of r)
+passed-up r e h P p = let q = err_from_is_err_and r h in rw (q.1, q.2) p
 
 -- r is the refusal of the lengths, for as many cycles as the trace has
 module _

@@ -3,4 +3,4 @@
 
 mod list;
 
-pub use list::{FailureCount, failures};
+pub use list::failures;

@@ -1,38 +1,23 @@
 // The failure list of a trace.
-ghost use Rattle.failures.specs.Answers.{ListAnswer};
+ghost use Rattle.rules.specs.Refusals.{refusal_of};
+ghost use Rattle.failures.specs.Answers.{count_of, ListAnswer};
 
 use lengths::lengths_refusal;
 use passes::{count_all, write_all};
-use rules::Config;
+use rules::{Config, Refusal};
 use trace::frames_in;
 
-// The refusal number or 0, and how many entries the list has; refused: 0.
-#[derive(Clone, Copy)]
-pub struct FailureCount {
-    pub refusal: u32,
-    pub count: usize,
-}
-
-// Writes three words for each failure and each illegal start of the trace: cycle, mark and start, in this order. Refusals 1, 2, 3, 4, and 8 where the slice is
-// too short; refused: it is as it was.
-pub fn failures(c: Config, trace: &[u32], list: &mut [u32]) -> FailureCount
-    ensures { ListAnswer c trace.now list.old list.new result.refusal result.count }
+// Writes three words for each failure and each illegal start of the trace: cycle, mark and start, in this order. Gives how many entries the list has.
+// Refusals 1, 2, 3, 4, and 8 where the slice is too short; refused: it is as it was.
+pub fn failures(c: Config, trace: &[u32], list: &mut [u32]) -> Result<usize, Refusal>
+    ensures { ListAnswer c trace.now list.old list.new (refusal_of result) (count_of result) }
 {
     let cycles = frames_in(trace.len());
-    let refused = lengths_refusal(c, trace.len(), cycles, cycles);
-    if refused != 0 {
-        return FailureCount {
-            refusal: refused,
-            count: 0,
-        };
-    }
+    lengths_refusal(c, trace.len(), cycles, cycles)?;
     let count = count_all(c, trace);
     if list.len() / 3 < count {
-        return FailureCount {
-            refusal: 8,
-            count: 0,
-        };
+        return Err(Refusal::ListRoom);
     }
     write_all(c, trace, list);
-    FailureCount { refusal: 0, count }
+    Ok(count)
 }

@@ -17,19 +17,7 @@ pub fn fails(row: u32) -> bool
 pub fn going_on(c: Config) -> Config
     ensures { result ≡ going_on_config c }
 {
-    let p = c.p;
-    let q = c.q;
-    let r = c.r;
-    Config {
-        kind: c.kind,
-        n: c.n,
-        p,
-        q,
-        r,
-        min: c.min,
-        value: c.value,
-        severity: 0,
-    }
+    Config { severity: 0, ..c }
 }
 
 // What a fatal checker leaves in a cycle where one that goes on leaves `next`.
@@ -38,8 +26,8 @@ pub fn stop_at_failure(next: Outcome) -> Outcome
 {
     if fails(next.row) {
         return Outcome {
-            row: next.row,
             word: STOPPED,
+            ..next
         };
     }
     next

@@ -2,9 +2,10 @@
 ghost use Rattle.std.specs.Prelude.{◌≡◌};
 ghost use Rattle.trace.specs.Stretches.{Runnable, Ran};
 
+use families::run_family;
 use fatal::going_on;
-use fatal_families::watch;
 use rules::{Config, STOPPED};
+use runs::Watch;
 use stopped_runs::stay;
 use trace::{Reached, Stretch};
 
@@ -22,17 +23,15 @@ pub fn run_fatal(
     if s.word == STOPPED {
         return stay(rows, words, s);
     }
-    let reached = watch(going_on(c), trace, rows, words, s);
+    let reached = run_family::<Watch>(going_on(c), trace, rows, words, s);
     if reached.word != STOPPED {
         return reached;
     }
     let rest = Stretch {
-        from: s.from,
         at: reached.at,
-        to: s.to,
-        stops: s.stops,
         word: reached.word,
         kept: reached.kept,
+        ..s
     };
     stay(rows, words, rest)
 }

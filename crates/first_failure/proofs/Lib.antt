@@ -1,3 +1,2 @@
--- Laws of the search for the first failure, and the proofs of its functions.
+-- What is known of numbers and a length that are not refused.
 pub mod Refusals
-pub mod Searches

@@ -1,8 +1,8 @@
 -- The first failure, from document 01, "What the viewer calls" and "Refusal numbers". Assumes nothing.
-use Rattle.std.specs.Prelude.{ℕ, ◌+◌, ◌*◌, ◌<◌, ◌≡◌, Bool, true, false, cond, List, T, leb, eqb, length, get_or}
+use Rattle.std.specs.Prelude.{ℕ, ◌+◌, ◌*◌, ◌<◌, ◌≡◌, Bool, true, false, cond, List, T, leb, eqb, length, get_or, Option, Some, None, Result, Ok, Err}
+use Rattle.rules.specs.declared.refusal.Refusal.{Refusal}
 use Rattle.rules.specs.Rules.{failing}
 use Rattle.first_failure.specs.declared.search.FirstFailure.{FirstFailure}
-use Rattle.first_failure.specs.declared.search.FirstFailure.TheVariants.{Refused, Nothing, At}
 
 -- "K lots of N rows, checker by checker": the row of checker k in cycle t
 abbrev pub row_at : List ℕ → ℕ → ℕ → ℕ → ℕ
@@ -12,26 +12,21 @@ row_at rows cycles k t = get_or rows (k * cycles + t) 0
 unfoldable pub search_refusal : ℕ → ℕ → ℕ → ℕ
 search_refusal checkers cycles rows = cond (leb checkers 64) (cond (leb cycles 65536) (cond (eqb rows (checkers * cycles)) 0 5) 4) 9
 
--- the refusal number and the values of each case of the answer
-abbrev pub refusal_of : FirstFailure → ℕ
-refusal_of (Refused n) = n
-refusal_of Nothing = 0
-refusal_of (At k t) = 0
+-- the values of each case of the answer, beside its refusal number
+abbrev pub is_found : Result (Option FirstFailure) Refusal → Bool
+is_found (Err _) = false
+is_found (Ok None) = false
+is_found (Ok (Some _)) = true
 
-abbrev pub is_found : FirstFailure → Bool
-is_found (Refused n) = false
-is_found Nothing = false
-is_found (At k t) = true
+abbrev pub checker_of : Result (Option FirstFailure) Refusal → ℕ
+checker_of (Err _) = 0
+checker_of (Ok None) = 0
+checker_of (Ok (Some found)) = found.checker
 
-abbrev pub checker_of : FirstFailure → ℕ
-checker_of (Refused n) = 0
-checker_of Nothing = 0
-checker_of (At k t) = k
-
-abbrev pub cycle_of : FirstFailure → ℕ
-cycle_of (Refused n) = 0
-cycle_of Nothing = 0
-cycle_of (At k t) = t
+abbrev pub cycle_of : Result (Option FirstFailure) Refusal → ℕ
+cycle_of (Err _) = 0
+cycle_of (Ok None) = 0
+cycle_of (Ok (Some found)) = found.cycle
 
 -- "The smallest cycle with mark 1 or 2, then the smallest checker"
 pub record First (checkers cycles : ℕ) (rows : List ℕ) (checker cycle : ℕ) : Type 0 where

@@ -23,6 +23,7 @@ impl Paired {
     {
         let both = high % 65536 * 65536 + low % 65536;
         let mut sums = self.sums;
+        // The index is the mark's bit too.
         for i in 0..MARKS {
             sums[i] += both & (65537 << i);
         }
@@ -36,6 +37,7 @@ impl Paired {
     {
         let sums = self.sums;
         let mut counts = tally.counts;
+        // The index is the mark's bit too, and one for both arrays.
         for i in 0..MARKS {
             let both = sums[i] >> i;
             counts[i] += both % 65536 + both / 65536;
@@ -52,6 +54,7 @@ pub fn with_halves(rows: &[u32], from: usize, half: usize, tally: Tally) -> Tall
 {
     let middle = from + half;
     let mut paired = Paired { sums: [0; MARKS] };
+    // Both halves are in one slice, so that an index into each is plainer than a `zip` of two parts.
     for k in 0..half {
         paired = paired.with(rows[from + k], rows[middle + k]);
     }
@@ -62,5 +65,5 @@ pub fn with_halves(rows: &[u32], from: usize, half: usize, tally: Tally) -> Tall
 pub fn half_of(left: usize) -> usize
     ensures { (result ≤ 1024) × (result + result ≤ left) × (2 ≤ left → 1 ≤ result) }
 {
-    if left < 2048 { left / 2 } else { 1024 }
+    (left / 2).min(1024)
 }

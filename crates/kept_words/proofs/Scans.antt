@@ -1,5 +1,7 @@
 -- A search for an impossible word, word by word and block by block. Assumes nothing.
-use Rattle.std.proofs.Common.{◌≡◌, ℕ, suc, ◌+◌, ◌-◌, ◌%◌, ◌^◌, ◌<◌, ◌≤◌, true, false, ◌&&◌, T, eqb, ltb, List, get_or, sym, subst, ⊎_elim, le_refl, arith, eqb→eq, ltb-false, ltb-true, eq-eqb}
+use Rattle.std.proofs.Common.{◌≡◌, ℕ, zero, suc, ◌+◌, ◌-◌, ◌%◌, ◌^◌, ◌<◌, ◌≤◌, Bool, true, false, ◌&&◌, T, eqb, ltb, List, length, take, drop, get_or, refl, sym, ap, ap₂, ◌∙◌, length-drop, subst, ⊎_elim, le_refl, arith, eqb→eq, ltb-false, ltb-true, eq-eqb}
+use Rattle.std.proofs.lemmas.List.{get_or-take, get_or-drop}
+use lib.Seq.{length-take-le}
 use Rattle.bits.specs.Bits.{every}
 use Rattle.bits.proofs.Tests.{of-true, either, iff-eq, or_left, every-elim}
 use Rattle.rules.specs.declared.config.Config.{Config}
@@ -55,8 +57,24 @@ module _ (c : Config) (words : List ℕ) (from to : ℕ) where
       pub passed-block : u ≤ r → Passed u
       passed-block h = passed_on u (omega (arith, b.low, b.high)) fits (λ s l g. b.lower_possible s l (omega arith))
 
+every-ext : (k : ℕ) (f g : ℕ → Bool) → ((i : ℕ) → i < k → f i ≡ g i) → every k f ≡ every k g
+unfolding every
+every-ext zero f g h = refl
+every-ext (suc k) f g h = ap₂ (λ (a b : Bool). a && b) (every-ext k f g (λ i l. h i (omega arith))) (h k (omega arith))
+
 -- a block whose words are all possible
 module _ (c : Config) (words : List ℕ) (from count : ℕ) where
+  -- a test of each word of the block
+  pub every-block : (p : ℕ → Bool) → from + count ≤ length words
+      → every (length (take (from + count - from) (drop from words))) (λ i. p (get_or (take (from + count - from) (drop from words)) i 0))
+      ≡ every count (λ i. p (get_or words (from + i) 0))
+  every-block p h =
+      let all : from + count - from ≡ count = omega arith in
+      let long : length (take count (drop from words)) ≡ count = length-take-le count (drop from words) (omega (arith, length-drop from words)) in
+      rw (all, long)
+      (every-ext count (λ i. p (get_or (take count (drop from words)) i 0)) (λ i. p (get_or words (from + i) 0))
+      (λ i l. ap p (get_or-take count (drop from words) i 0 l ∙ get_or-drop from words i 0)))
+
   all-passed : ((i : ℕ) → i < count → T (possible c (get_or words (from + i) 0))) → FirstImpossible c words from (from + count) (from + count)
   all-passed h = record {
     low = omega arith;

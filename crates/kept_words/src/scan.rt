@@ -22,7 +22,7 @@ pub fn first_impossible(c: Config, words: &[u64]) -> usize
     let n = words.len();
     let mut t: usize = 0;
     while t < n {
-        let count = if n - t < BLOCK { n - t } else { BLOCK };
+        let count = (n - t).min(BLOCK);
         let reached = first_in_block(c, words, t, count);
         if reached < t + count {
             return reached;
@@ -37,39 +37,40 @@ fn first_in_block(c: Config, words: &[u64], from: usize, count: usize) -> usize
     requires { (Good c) × (0 < count) × (from + count ≤ length words.now) }
     ensures { FirstImpossible c words.now from (from + count) result }
 {
+    let block = &words[from..from + count];
     if words[from] == STOPPED {
-        if is_possible(c, STOPPED) & all_stopped(words, from, count) {
+        if is_possible(c, STOPPED) & all_stopped(block) {
             return from + count;
         }
     } else {
-        if misfits_in(c, words, from, count) == 0 {
+        if misfits_in(c, block) == 0 {
             return from + count;
         }
     }
     first_by_one(c, words, from, from + count)
 }
 
-// 0 exactly where each of the words is possible for a checker that goes on. The kind is the same in each turn, so that the compiler makes a loop for each
-// family.
-fn misfits_in(c: Config, words: &[u64], from: usize, count: usize) -> u64
-    requires { (Good c) × (from + count ≤ length words.now) }
-    ensures { (result == 0) ≡ every count (λ (i : ℕ). going_possible c (slice_index words.now (from + i))) }
+// 0 exactly where each of the words is possible for a checker that goes on. No turn leaves the loop, so that several words are taken at once, and the kind is
+// the same in each turn, so that the compiler makes a loop for each family.
+fn misfits_in(c: Config, block: &[u64]) -> u64
+    requires { Good c }
+    ensures { (result == 0) ≡ every (length block.now) (λ (i : ℕ). going_possible c (slice_index block.now i)) }
 {
     let mut bits: u64 = 0;
-    for i in 0..count {
-        bits = bits | misfit(c, words[from + i]);
+    for word in block {
+        bits |= misfit(c, *word);
     }
     bits
 }
 
 // Whether each of the words is 2^63.
-fn all_stopped(words: &[u64], from: usize, count: usize) -> bool
-    requires { from + count ≤ length words.now }
-    ensures { result ≡ every count (λ (i : ℕ). nat_eq (slice_index words.now (from + i)) stopped_word) }
+fn all_stopped(block: &[u64]) -> bool
+    ensures { result ≡ every (length block.now) (λ (i : ℕ). nat_eq (slice_index block.now i) stopped_word) }
 {
     let mut bits: u64 = 0;
-    for i in 0..count {
-        bits = bits | wrapping_sub_u64(words[from + i], STOPPED);
+    // No `all`, which would leave at the first other word: so the compiler takes several words at once.
+    for word in block {
+        bits |= wrapping_sub_u64(*word, STOPPED);
     }
     bits == 0
 }

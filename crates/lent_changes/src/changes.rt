@@ -1,10 +1,11 @@
 // The recheck's end and changes in a lent slice, and its refusal and the cycle of an impossible word in one number.
 ghost use Rattle.std.specs.Prelude.{◌≡◌, ◌/◌, ◌%◌, ◌<◌};
+ghost use Rattle.rules.specs.Refusals.{refusal_of, cycle_of};
 ghost use Rattle.lent_changes.specs.Answers.{HostRecheck};
 
 use lengths::lengths_refusal;
 use recheck::recheck;
-use rules::{Config, MARKS};
+use rules::{Config, MARKS, Refusal};
 use stored_changes::store_changes;
 
 // The recheck after an edit of cycles a to b-1. Answers 2^32 times the refusal and, where that is 7, the lowest cycle whose word is impossible; not refused, the
@@ -21,21 +22,33 @@ pub fn recheck_into(
 ) -> u64
     ensures { HostRecheck config trace.now rows.old words.old a b answer.old rows.new words.new answer.new (result / 4294967296) (result % 4294967296) }
 {
+    match stored(config, trace, rows, words, a, b, answer) {
+        Ok(()) => 0,
+        Err(refusal) => packed(refusal.number(), refusal.cycle()),
+    }
+}
+
+// The recheck, with its end and its changes in the lent numbers.
+fn stored(
+    config: Config,
+    trace: &[u32],
+    rows: &mut [u32],
+    words: &mut [u64],
+    a: u64,
+    b: u64,
+    answer: &mut [i32],
+) -> Result<(), Refusal>
+    ensures rechecked { HostRecheck config trace.now rows.old words.old a b answer.old rows.new words.new answer.new (refusal_of result) (cycle_of result) }
+    ensures cycle_low { cycle_of result < 4294967296 }
+{
     if answer.len() != 1 + MARKS {
-        let refused = lengths_refusal(config, trace.len(), rows.len(), words.len());
-        return if refused == 0 {
-            packed(5, 0)
-        } else {
-            packed(refused, 0)
-        };
+        lengths_refusal(config, trace.len(), rows.len(), words.len())?;
+        return Err(Refusal::SliceLength);
     }
-    let result = recheck(config, trace, rows, words, a as usize, b as usize);
-    if result.refusal != 0 {
-        return packed(result.refusal, result.cycle);
-    }
-    let changes = result.changes;
-    store_changes(answer, result.end as i32, changes);
-    0
+    let done = recheck(config, trace, rows, words, a as usize, b as usize)?;
+    let changes = done.changes;
+    store_changes(answer, done.end as i32, changes);
+    Ok(())
 }
 
 // The refusal and the cycle in one number.

@@ -12,13 +12,10 @@ pub fn pick_marked(rows: &[u32; BLOCK], cycles: usize, picked: &mut [usize; BLOC
     ensures { Picks rows.now cycles picked.new result }
 {
     let mut next: usize = 0;
-    let mut first: usize = 0;
-    while first < cycles {
-        let left = cycles - first;
-        let width = if left < 32 { left } else { 32 };
+    for first in (0..cycles).step_by(32) {
+        let width = (cycles - first).min(32);
         let marks = marks_of(rows, first) >> (32 - width);
         next = store_places(marks, first, width, picked, next);
-        first += width;
     }
     next
 }
@@ -50,6 +47,7 @@ fn store_places(
 {
     let mut rest = marks;
     let mut next = at;
+    // It goes over the ones of a word, which is neither a range nor a slice.
     while rest != 0 {
         let j = 31 - u32::leading_zeros(rest);
         picked[next] = first + width - 1 - j as usize;

@@ -19,7 +19,8 @@ fn print_checked(
     requires { (length rows.old ≡ frames trace.now) × (length words.old ≡ frames trace.now) }
 {
     let config = s.config;
-    full_check(config, trace, rows, words);
+    // The checker is accepted, and the rows and words are as many as the frames: nothing is refused.
+    let _ = full_check(config, trace, rows, words);
     print_head(rt, s)?;
     print_rows(rt, s, trace, rows, words)?;
     print_failures(rt, config, trace)?;

@@ -5,7 +5,7 @@ mod checking;
 
 use checking::print_check;
 use config::config_refusal;
-use marks_args::{ENABLE, RESET, Settings, has_argument, is_given, read_settings};
+use marks_args::{Keyword, Settings, has_argument, read_settings};
 use marks_dump::{count_frames, read_dump, take_as_one};
 use marks_words::{print_config_refusal, print_fault, print_refusal, print_usage};
 use std::io;
@@ -13,11 +13,9 @@ use std::io::Read;
 
 // The bits of the reset word whose wires are not connected: bit 0 is reset_n, bit 1 enable. Kinds 0 to 6 do not read enable.
 fn taken_bits(s: Settings) -> u32 {
-    if is_given(s, RESET) {
-        if is_given(s, ENABLE) { 0 } else { 2 }
-    } else {
-        if is_given(s, ENABLE) { 1 } else { 3 }
-    }
+    let reset = if s.is_given(Keyword::Reset) { 0 } else { 1 };
+    let enable = if s.is_given(Keyword::Enable) { 0 } else { 2 };
+    reset | enable
 }
 
 // The dump is read, and where it is not refused its frames are checked.
@@ -28,11 +26,9 @@ fn run_with(
     wires: &[u64; 258],
     frames: &mut [u32; 524288],
 ) -> io::Result<()> {
-    let dump = read_dump(input, wires, frames);
-    let loaded = dump.loaded;
-    if dump.failed {
-        return report::text(rt, b"standard input cannot be read\n");
-    }
+    let Ok(loaded) = read_dump(input, wires, frames) else {
+        return rt.println("standard input cannot be read");
+    };
     if loaded.refusal != 0 {
         return print_refusal(rt, loaded.refusal, loaded.line, loaded.identifier);
     }
@@ -52,14 +48,12 @@ fn main(rt: HostRuntime) -> io::Result<()> {
         return print_usage(&rt);
     }
     let mut wires = [0u64; 258];
-    let s = read_settings(&rt, &mut wires);
-    if s.fault != 0 {
-        return print_fault(&rt, s);
-    }
-    let config = s.config;
-    let refused = config_refusal(config);
-    if refused != 0 {
-        return print_config_refusal(&rt, refused);
+    let s = match read_settings(&rt, &mut wires) {
+        Ok(s) => s,
+        Err(misuse) => return print_fault(&rt, misuse),
+    };
+    if let Err(refusal) = config_refusal(s.config) {
+        return print_config_refusal(&rt, refusal);
     }
     run(&rt, &mut rt.stdin(), s, &wires)
 }

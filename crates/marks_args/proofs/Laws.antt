@@ -1,11 +1,11 @@
 -- Laws of a word that is read byte by byte, and of wires put into the table one by one. Assumes nothing.
-use mathlib.Core.Path.{◌≡◌, refl, ◌∙◌, sym, ap}
+use mathlib.Core.Path.{◌≡◌, refl}
 use mathlib.Core.List.{List}
 use Prim.Native.Nat.{ℕ, suc, ◌+◌, ◌-◌, ◌<◌, ◌≤◌}
 use native.Mathlib.Omega.{arith}
 use native.Mathlib.Numerals.{add-one}
 use lib.ListN.{length, get_or, take}
-use lib.Seq.{take-suc, take_all}
+use lib.Seq.{take-suc}
 use Rattle.dump_words.specs.declared.text.Text.{Text}
 use Rattle.dump_words.specs.declared.number.Number.{Number}
 use Rattle.dump_words.specs.Gather.{no_text, no_number, text_add, number_add}
@@ -21,18 +21,12 @@ module _ (w : List ℕ) where
   pub text-more : (i : ℕ) (t u : Text) → t ≡ text_of no_text (take i w) → i < length w → u ≡ text_add t (get_or w i 0) → u ≡ text_of no_text (take (i + 1) w)
   text-more i t u p h q = rw (add-one, take-suc w i 0 h, text-snoc, ← p) q
 
-  pub text-all : (i : ℕ) (t : Text) → t ≡ text_of no_text (take i w) → length w ≤ i → t ≡ text_of no_text w
-  text-all i t p h = p ∙ ap (text_of no_text) (take_all i w h)
-
   pub number-none : no_number ≡ number_of no_number (take 0 w)
   unfolding number_of
   number-none = refl
 
   pub number_more : (i : ℕ) (n m : Number) → n ≡ number_of no_number (take i w) → i < length w → m ≡ number_add n (get_or w i 0) → m ≡ number_of no_number (take (i + 1) w)
   number_more i n m p h q = rw (add-one, take-suc w i 0 h, number-snoc, ← p) q
-
-  pub number-all : (i : ℕ) (n : Number) → n ≡ number_of no_number (take i w) → length w ≤ i → n ≡ number_of no_number w
-  number-all i n p h = p ∙ ap (number_of no_number) (take_all i w h)
 
 module _ (first code low count k : ℕ) where
   pub wires-more : (ws us : List ℕ) → k < count → us ≡ with_wire ws (first + k) code (low + k)
@@ -47,10 +41,3 @@ module _ (first code low count k : ℕ) where
   pub wires-end : (ws : List ℕ) → count ≤ k → with_wires ws (first + k) code (low + k) (count - k) ≡ ws
   unfolding with_wires
   wires-end ws h = let none : count - k ≡ 0 = omega arith in rw none refl
-
-pub wires-none : (ws : List ℕ) (first code low count : ℕ) → with_wires ws first code low count ≡ with_wires ws (first + 0) code (low + 0) (count - 0)
-wires-none ws first code low count =
-    let entry : first + 0 ≡ first = omega arith in
-    let index : low + 0 ≡ low = omega arith in
-    let all : count - 0 ≡ count = omega arith in
-    rw (entry, index, all) refl

@@ -1,89 +1,104 @@
-// One argument of the program, as a keyword, a number or a code.
-ghost use Rattle.std.specs.Prelude.{◌≡◌, ◌≤◌, length};
+// The arguments of the program, one after the other, as numbers, codes and keywords.
+ghost use Rattle.std.specs.Prelude.{◌≤◌, length, IfSome};
 
-use crate::faults::{MISSING, NOT_CODE, NOT_NUMBER};
+use crate::faults::{Fault, Misuse};
+use crate::keyword::{Keyword, keyword_of};
 use crate::text::{number_of, text_of};
-use dump_words::Text;
 use std::env::{Env, FillError};
-
-// A number or a code, or what is wrong with the argument: then the value is 0.
-#[derive(Clone, Copy)]
-pub struct Value {
-    pub fault: u32,
-    pub value: u64,
-}
-
-fn wrong(fault: u32) -> Value
-    ensures { result.value ≡ 0 }
-{
-    Value { fault, value: 0 }
-}
 
 // Whether there is an argument `i`; argument 0 is the program's name.
 pub fn has_argument(rt: &impl Env, i: usize) -> bool {
-    let mut space = [0u8; 1];
-    match rt.arg(i, &mut space) {
-        Err(FillError::NotPresent) => false,
-        _ => true,
-    }
+    read_argument(rt, i, &mut [0; 1]).is_some()
 }
 
-// Puts the argument `i` at the start of the space, and answers its length: 0 where it is missing, or longer than the space.
-pub fn read_argument(rt: &impl Env, i: usize, space: &mut [u8]) -> usize
-    ensures { result ≤ length space.new }
+// Puts the argument `i` at the start of the space, and answers its length: 0 where it is longer than the space, none where it is missing.
+pub fn read_argument(rt: &impl Env, i: usize, space: &mut [u8]) -> Option<usize>
+    ensures { IfSome result (λ n. n ≤ length space.new) }
 {
     match rt.arg(i, space) {
-        Ok(n) => n,
-        Err(_) => 0,
+        Ok(n) => Some(n),
+        Err(FillError::TooLong) => Some(0),
+        Err(FillError::NotPresent) => None,
     }
 }
 
-// The argument as a keyword. An argument of more than 4,096 bytes is read as an empty one, which is no word of any option.
-pub fn text_at(rt: &impl Env, i: usize) -> Text {
-    let mut space = [0u8; 4096];
-    let n = read_argument(rt, i, &mut space);
-    text_of(&space[..n])
+// Where the arguments are read: the number of the one that was read last, at first 0, the program's name. An argument of more than 4,096 bytes is read as an
+// empty one, which is no number, no code and no keyword.
+#[derive_where(Clone, Copy)]
+pub struct Arguments<'a, E: Env> {
+    rt: &'a E,
+    at: usize,
 }
 
-// The argument as a decimal number of at most `most`.
-pub fn number_at(rt: &impl Env, i: usize, most: u64) -> Value
-    ensures { result.value ≤ most }
-{
-    if !has_argument(rt, i) {
-        return wrong(MISSING);
+impl<'a, E: Env> Arguments<'a, E> {
+    pub fn new(rt: &'a E) -> Self {
+        Arguments { rt, at: 0 }
     }
-    let mut space = [0u8; 4096];
-    let length = read_argument(rt, i, &mut space);
-    let n = number_of(&space[..length]);
-    if n.state != 1 {
-        return wrong(NOT_NUMBER);
-    }
-    if most < n.value {
-        return wrong(NOT_NUMBER);
-    }
-    Value {
-        fault: 0,
-        value: n.value,
-    }
-}
 
-// The argument as an identifier code: 1 to 8 bytes from 33 to 126.
-pub fn code_at(rt: &impl Env, i: usize) -> Value {
-    if !has_argument(rt, i) {
-        return wrong(MISSING);
+    // What is wrong with the argument that was read last.
+    pub fn misuse(&self, fault: Fault) -> Misuse {
+        Misuse { fault, at: self.at }
     }
-    let t = text_at(rt, i);
-    if t.length == 0 {
-        return wrong(NOT_CODE);
+
+    // The next argument at the start of the space, and its length.
+    fn next(&mut self, space: &mut [u8; 4096]) -> Option<usize>
+        ensures { IfSome result (λ n. n ≤ 4096) }
+    {
+        self.at = self.at.saturating_add(1);
+        read_argument(self.rt, self.at, space)
     }
-    if 8 < t.length {
-        return wrong(NOT_CODE);
+
+    // The next argument as a decimal number.
+    pub fn number(&mut self) -> Result<u64, Misuse> {
+        let mut space = [0u8; 4096];
+        let Some(length) = self.next(&mut space) else {
+            return Err(self.misuse(Fault::Missing));
+        };
+        let n = number_of(&space[..length]);
+        if n.state != 1 {
+            return Err(self.misuse(Fault::NotNumber));
+        }
+        Ok(n.value)
     }
-    if t.plain != 1 {
-        return wrong(NOT_CODE);
+
+    // The next argument as a decimal number of at most 32 bits.
+    pub fn word(&mut self) -> Result<u32, Misuse> {
+        let n = self.number()?;
+        let Ok(word) = u32::try_from(n) else {
+            return Err(self.misuse(Fault::NotNumber));
+        };
+        Ok(word)
     }
-    Value {
-        fault: 0,
-        value: t.low,
+
+    // The next argument as a decimal number that has its limit below 255: one of 255 or more is out of its limits as 255 is.
+    pub fn byte(&mut self) -> Result<u8, Misuse> {
+        let n = self.word()?;
+        Ok(u8::try_from(n).unwrap_or(u8::MAX))
+    }
+
+    // The next argument as an identifier code: 1 to 8 bytes from 33 to 126.
+    pub fn code(&mut self) -> Result<u64, Misuse> {
+        let mut space = [0u8; 4096];
+        let Some(length) = self.next(&mut space) else {
+            return Err(self.misuse(Fault::Missing));
+        };
+        let t = text_of(&space[..length]);
+        if t.length == 0 || 8 < t.length || t.plain != 1 {
+            return Err(self.misuse(Fault::NotCode));
+        }
+        Ok(t.low)
+    }
+
+    // The next argument as the keyword of an option; none where the arguments end.
+    pub fn keyword(&mut self) -> Result<Option<Keyword>, Misuse> {
+        let mut space = [0u8; 4096];
+        let Some(length) = self.next(&mut space) else {
+            return Ok(None);
+        };
+        let keyword = keyword_of(&space[..length]);
+        if keyword.is_none() {
+            return Err(self.misuse(Fault::NotOption));
+        }
+        Ok(keyword)
     }
 }

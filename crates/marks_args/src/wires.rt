@@ -1,4 +1,5 @@
-// Entries of the table of connections: 129 pairs of a code and an index.
+// Entries of the table of connections: 129 pairs of a code and an index, one word behind the other, as the C host lends them to the reader of dumps (`begin` of
+// dump_state).
 ghost use Rattle.std.specs.Prelude.{◌≡◌, ◌<◌, ◌≤◌, ◌+◌, ◌*◌};
 ghost use Rattle.marks_args.specs.Wires.{with_wire, with_wires};
 
@@ -16,9 +17,7 @@ pub fn put_wires(wires: &mut [u64; 258], first: usize, code: u64, low: u64, coun
     requires { (first + count ≤ 129) × (low + count ≤ 18446744073709551616) }
     ensures { wires.new ≡ with_wires wires.old first code low count }
 {
-    let mut k: u64 = 0;
-    while k < count {
+    for k in 0..count {
         put_wire(wires, first + k as usize, code, low + k);
-        k += 1;
     }
 }

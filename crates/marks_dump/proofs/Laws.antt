@@ -7,9 +7,6 @@ use lib.ListN.{get_or, set}
 use lib.Bits.{bit_or}
 use Rattle.marks_dump.specs.Taken.{with_bits}
 
-pub bits_none : (fs : List ℕ) (bits n : ℕ) → with_bits fs 0 bits n ≡ with_bits fs 0 bits (n - 0)
-bits_none fs bits n = let all : n - 0 ≡ n = omega arith in rw all refl
-
 module _ (fs : List ℕ) (bits n t : ℕ) where
   pub bits-more : t < n → with_bits fs t bits (n - t) ≡ with_bits (set fs (8 * t) (bit_or (get_or fs (8 * t) 0) bits)) (t + 1) bits (n - (t + 1))
   unfolding with_bits

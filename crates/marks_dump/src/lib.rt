@@ -4,5 +4,5 @@
 mod reading;
 mod taken;
 
-pub use reading::{Dump, read_dump};
+pub use reading::read_dump;
 pub use taken::{count_frames, take_as_one};

@@ -6,11 +6,7 @@ ghost use Rattle.marks_dump.specs.Taken.{with_bits};
 pub fn count_frames(frames: u64) -> usize
     ensures { result ≤ 65536 }
 {
-    if frames < 65536 {
-        frames as usize
-    } else {
-        65536
-    }
+    frames.min(65536) as usize
 }
 
 // Sets these bits in the reset word of the first n frames.
@@ -18,9 +14,7 @@ pub fn take_as_one(frames: &mut [u32; 524288], bits: u32, n: usize)
     requires { n ≤ 65536 }
     ensures { frames.new ≡ with_bits frames.old 0 bits n }
 {
-    let mut t = 0;
-    while t < n {
+    for t in 0..n {
         frames[8 * t] = frames[8 * t] | bits;
-        t += 1;
     }
 }

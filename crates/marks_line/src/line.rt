@@ -1,58 +1,64 @@
-// Bytes of a line.
-ghost use Rattle.std.specs.Prelude.{◌≡◌, ◌≤◌, length, take};
+// A line of a table.
+ghost use Rattle.std.specs.Prelude.{◌≡◌, ◌≤◌, ℕ, List, [], ◌∷◌, take, replicate};
+ghost use Rattle.marks_line.specs.Lines.{with_bytes};
 
 use std::io;
+use std::marker::Model;
 
-pub fn new_line() -> [u8; 256]
-    ensures { 256 ≡ length result }
-{
-    [b' '; 256]
+// Bytes, of which the first `used` are the line so far.
+#[derive(Drop)]
+pub struct Line {
+    bytes: [u8; 256],
+    used: usize,
 }
 
-// One byte.
-pub fn put_byte(line: &mut [u8; 256], at: usize, b: u8) -> usize {
-    if at < 256 {
-        line[at] = b;
-        return at + 1;
+impl Model for Line {
+    ghost Value = { List ℕ };
+
+    ghost view = { λ line. take line.used line.bytes };
+
+    ghost invariant = { λ line. line.used ≤ 256 };
+}
+
+impl Line {
+    pub fn new() -> Line
+        ensures { result ≡ [] }
+    {
+        Line {
+            bytes: [b' '; 256],
+            used: 0,
+        }
     }
-    at
-}
 
-pub fn put(line: &mut [u8; 256], at: usize, text: &[u8]) -> usize {
-    let mut end = at;
-    let mut i = 0;
-    while i < text.len() {
-        end = put_byte(line, end, text[i]);
-        i += 1;
+    pub(crate) fn put_byte(&mut self, b: u8)
+        ensures { self.new ≡ with_bytes self.old (b ∷ []) }
+    {
+        if self.used < 256 {
+            self.bytes[self.used] = b;
+            self.used += 1;
+        }
     }
-    end
-}
 
-// So many spaces.
-pub fn put_spaces(line: &mut [u8; 256], at: usize, count: usize) -> usize {
-    let mut end = at;
-    let mut i = 0;
-    while i < count {
-        end = put_byte(line, end, b' ');
-        i += 1;
+    pub fn put(&mut self, text: &str)
+        ensures { self.new ≡ with_bytes self.old text.now }
+    {
+        for b in text.as_bytes() {
+            self.put_byte(*b);
+        }
     }
-    end
-}
 
-// How much of the line is used: a line that is full has no place behind it.
-fn used(line: &[u8], at: usize) -> usize
-    ensures { (result ≤ length line.now) × (result ≡ length (take result line.now)) }
-{
-    if at < line.len() { at } else { line.len() }
-}
+    // So many spaces.
+    pub fn put_spaces(&mut self, count: usize)
+        ensures { self.new ≡ with_bytes self.old (replicate count 32) }
+    {
+        for _ in 0..count {
+            self.put_byte(b' ');
+        }
+    }
 
-fn write_line(rt: &impl Print, line: &[u8], at: usize) -> io::Result<()> {
-    let n = used(line, at);
-    rt.write_all(&line[..n])?;
-    rt.write_all(b"\n")
-}
-
-// Writes the line, and the end of a line.
-pub fn end_line(rt: &impl Print, line: &[u8; 256], at: usize) -> io::Result<()> {
-    write_line(rt, line, at)
+    // Writes the line, and the end of a line.
+    pub fn print(&self, rt: &impl Print) -> io::Result<()> {
+        rt.write_all(&self.bytes[..self.used])?;
+        rt.write_all(b"\n")
+    }
 }

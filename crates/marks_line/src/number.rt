@@ -1,22 +1,26 @@
 // Numbers in a line.
-use crate::line::{put, put_spaces};
+ghost use Rattle.std.specs.Prelude.{◌≡◌, ◌-◌, ◌++◌, length, replicate, decimal};
+ghost use Rattle.marks_line.specs.Lines.{with_bytes};
+
+use crate::line::Line;
 use itoa::Buffer;
 
-// In decimal.
-pub fn put_number(line: &mut [u8; 256], at: usize, n: u64) -> usize {
-    let mut buffer = Buffer::new();
-    let digits = buffer.format(n).as_bytes();
-    put(line, at, digits)
-}
-
-// In decimal, with spaces before it up to this width; a longer number is put whole.
-pub fn put_right(line: &mut [u8; 256], at: usize, n: u64, width: usize) -> usize {
-    let mut buffer = Buffer::new();
-    let digits = buffer.format(n).as_bytes();
-    let k = digits.len();
-    if k < width {
-        let begin = put_spaces(line, at, width - k);
-        return put(line, begin, digits);
+impl Line {
+    // In decimal.
+    pub fn put_number(&mut self, n: u64)
+        ensures { self.new ≡ with_bytes self.old (decimal n) }
+    {
+        let mut buffer = Buffer::new();
+        self.put(buffer.format(n));
     }
-    put(line, at, digits)
+
+    // In decimal, with spaces before it up to this width; a longer number is put whole.
+    pub fn put_right(&mut self, n: u64, width: usize)
+        ensures { self.new ≡ with_bytes self.old (replicate (width - length (decimal n)) 32 ++ decimal n) }
+    {
+        let mut buffer = Buffer::new();
+        let digits = buffer.format(n);
+        self.put_spaces(width.saturating_sub(digits.len()));
+        self.put(digits);
+    }
 }

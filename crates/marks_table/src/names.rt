@@ -1,49 +1,33 @@
 // The names of the marks.
-use marks_line::put;
-use rules::{CLOSED, FAILURE, ILLEGAL_START, OPENED, RESTARTED};
+use marks_line::Line;
+use rules::{CLOSED, FAILURE, ILLEGAL_START, MARKS, OPENED, RESTARTED, UNKNOWN};
+
+// The marks in the order of their weights.
+pub const ALL_MARKS: [u32; MARKS] = [FAILURE, ILLEGAL_START, OPENED, CLOSED, RESTARTED, UNKNOWN];
 
 // The name of a mark, by its weight in a row.
-pub fn put_name(line: &mut [u8; 256], at: usize, mark: u32) -> usize {
-    if mark == FAILURE {
-        return put(line, at, b"failure");
+pub fn name_of(mark: u32) -> &'static str {
+    match mark {
+        FAILURE => "failure",
+        ILLEGAL_START => "illegal start",
+        OPENED => "opened",
+        CLOSED => "closed",
+        RESTARTED => "restarted",
+        _ => "unknown",
     }
-    if mark == ILLEGAL_START {
-        return put(line, at, b"illegal start");
-    }
-    if mark == OPENED {
-        return put(line, at, b"opened");
-    }
-    if mark == CLOSED {
-        return put(line, at, b"closed");
-    }
-    if mark == RESTARTED {
-        return put(line, at, b"restarted");
-    }
-    put(line, at, b"unknown")
 }
 
 // The names of a row's marks, with a comma between two; - for none.
-pub fn put_marks(line: &mut [u8; 256], at: usize, row: u32) -> usize {
+pub fn put_marks(line: &mut Line, row: u32) {
     if row % 64 == 0 {
-        return put(line, at, b"-");
+        line.put("-");
     }
-    let mut end = at;
-    let mut left = row % 64;
-    let mut mark: u32 = 1;
-    while left != 0 {
-        if left % 2 == 1 {
-            end = put_name(line, end, mark);
-            if left != 1 {
-                end = put(line, end, b", ");
-            }
+    let mut between = "";
+    for mark in ALL_MARKS {
+        if row & mark != 0 {
+            line.put(between);
+            line.put(name_of(mark));
+            between = ", ";
         }
-        left = left / 2;
-        mark = double(mark);
     }
-    end
-}
-
-// The next mark. A row has six, so the last is not passed.
-fn double(mark: u32) -> u32 {
-    if mark < 64 { mark * 2 } else { mark }
 }

@@ -3,10 +3,9 @@ ghost use Rattle.std.specs.Prelude.{◌≡◌, ◌<◌, ◌≤◌, length};
 ghost use Rattle.trace.specs.Traces.{frames};
 
 use crate::names::put_marks;
-use bus::Range;
-use marks_args::{ENABLE, P, Q, R, RESET, Settings, is_given};
-use marks_line::{end_line, new_line, put, put_bits, put_right, put_spaces, put_wire};
-use rules::{Frame, STOPPED};
+use marks_args::{Keyword, Settings};
+use marks_line::{Line, Sample};
+use rules::{Family, Frame, STOPPED};
 use std::io;
 use trace::frame_at;
 
@@ -14,123 +13,98 @@ use trace::frame_at;
 fn word_width(kind: u8) -> usize
     ensures { (10 ≤ result) × (result ≤ 15) }
 {
-    if kind == 8 { 15 } else { 10 }
-}
-
-// The name of a port, over all its wires.
-fn put_port_name(line: &mut [u8; 256], at: usize, name: &[u8], range: Range) -> usize {
-    let width = range.width();
-    let end = put(line, at, name);
-    put_spaces(line, end, width as usize + 1)
-}
-
-// The names of the columns, up to the ports.
-fn put_wire_names(line: &mut [u8; 256], s: Settings) -> usize {
-    let mut at = put(line, 0, b"cycle  ");
-    if is_given(s, RESET) {
-        at = put(line, at, b"reset  ");
+    match Family::try_from(kind) {
+        Ok(Family::Stability) => 15,
+        _ => 10,
     }
-    if is_given(s, ENABLE) {
-        at = put(line, at, b"enable  ");
-    }
-    at
 }
 
-fn put_port_names(line: &mut [u8; 256], begin: usize, s: Settings) -> usize {
+fn print_names(rt: &impl Print, s: &Settings) -> io::Result<()> {
     let c = s.config;
-    let p = c.p;
-    let q = c.q;
-    let r = c.r;
-    let mut at = begin;
-    if is_given(s, P) {
-        at = put_port_name(line, at, b"P", p);
+    let mut line = Line::new();
+    line.put("cycle  ");
+    if s.is_given(Keyword::Reset) {
+        line.put("reset  ");
     }
-    if is_given(s, Q) {
-        at = put_port_name(line, at, b"Q", q);
+    if s.is_given(Keyword::Enable) {
+        line.put("enable  ");
     }
-    if is_given(s, R) {
-        at = put_port_name(line, at, b"R", r);
+    for (name, keyword, range) in [
+        ("P", Keyword::P, c.p),
+        ("Q", Keyword::Q, c.q),
+        ("R", Keyword::R, c.r),
+    ] {
+        if s.is_given(keyword) {
+            line.put(name);
+            line.put_spaces(range.width() as usize + 1);
+        }
     }
-    at
+    line.put_spaces(word_width(c.kind) - 9);
+    line.put("open word  marks");
+    line.print(rt)
 }
 
-fn print_names(rt: &impl Print, s: Settings) -> io::Result<()> {
+// A word of a frame: 0 has reset_n and enable, then P, Q and R.
+fn sample_of(f: &Frame, word: usize) -> Sample
+    requires { word < 4 }
+{
+    Sample {
+        wires: f.samples[word],
+        unknown: f.samples[4 + word],
+    }
+}
+
+// What is sampled of the wires and the ports that are connected.
+fn put_samples(line: &mut Line, s: &Settings, f: &Frame) {
     let c = s.config;
-    let mut line = new_line();
-    let wires = put_wire_names(&mut line, s);
-    let ports = put_port_names(&mut line, wires, s);
-    let word = put_spaces(&mut line, ports, word_width(c.kind) - 9);
-    let end = put(&mut line, word, b"open word  marks");
-    end_line(rt, &line, end)
-}
-
-// reset_n and enable, where they are connected.
-fn put_wires(line: &mut [u8; 256], begin: usize, s: Settings, f: Frame) -> usize {
-    let samples = f.samples;
-    let mut at = begin;
-    if is_given(s, RESET) {
-        at = put_wire(line, at, samples[0], samples[4], 0);
-        at = put_spaces(line, at, 6);
+    if s.is_given(Keyword::Reset) {
+        line.put_wire(sample_of(f, 0), 0);
+        line.put_spaces(6);
     }
-    if is_given(s, ENABLE) {
-        at = put_wire(line, at, samples[0], samples[4], 1);
-        at = put_spaces(line, at, 7);
+    if s.is_given(Keyword::Enable) {
+        line.put_wire(sample_of(f, 0), 1);
+        line.put_spaces(7);
     }
-    at
-}
-
-// The ports that are connected.
-fn put_ports(line: &mut [u8; 256], begin: usize, s: Settings, f: Frame) -> usize {
-    let samples = f.samples;
-    let c = s.config;
-    let p = c.p;
-    let q = c.q;
-    let r = c.r;
-    let mut at = begin;
-    if is_given(s, P) {
-        at = put_bits(line, at, samples[1], samples[5], p);
-        at = put_spaces(line, at, 2);
+    for (keyword, sample, range) in [
+        (Keyword::P, sample_of(f, 1), c.p),
+        (Keyword::Q, sample_of(f, 2), c.q),
+        (Keyword::R, sample_of(f, 3), c.r),
+    ] {
+        if s.is_given(keyword) {
+            line.put_bits(sample, range);
+            line.put_spaces(2);
+        }
     }
-    if is_given(s, Q) {
-        at = put_bits(line, at, samples[2], samples[6], q);
-        at = put_spaces(line, at, 2);
-    }
-    if is_given(s, R) {
-        at = put_bits(line, at, samples[3], samples[7], r);
-        at = put_spaces(line, at, 2);
-    }
-    at
 }
 
 // The open word as a number; the word of a fatal checker that has failed is 2^63.
-fn put_word(line: &mut [u8; 256], at: usize, word: u64, width: usize) -> usize
+fn put_word(line: &mut Line, word: u64, width: usize)
     requires { 10 ≤ width }
 {
     if word == STOPPED {
-        let begin = put_spaces(line, at, width - 7);
-        return put(line, begin, b"stopped");
+        line.put_spaces(width - 7);
+        line.put("stopped");
+    } else {
+        line.put_right(word, width);
     }
-    put_right(line, at, word, width)
 }
 
 fn print_row(
     rt: &impl Print,
-    s: Settings,
+    s: &Settings,
     t: usize,
     f: Frame,
     row: u32,
     word: u64,
 ) -> io::Result<()> {
-    let c = s.config;
-    let mut line = new_line();
-    let cycle = put_right(&mut line, 0, t as u64, 5);
-    let first = put_spaces(&mut line, cycle, 2);
-    let wires = put_wires(&mut line, first, s, f);
-    let ports = put_ports(&mut line, wires, s, f);
-    let words = put_word(&mut line, ports, word, word_width(c.kind));
-    let marks = put_spaces(&mut line, words, 2);
-    let end = put_marks(&mut line, marks, row);
-    end_line(rt, &line, end)
+    let mut line = Line::new();
+    line.put_right(t as u64, 5);
+    line.put_spaces(2);
+    put_samples(&mut line, s, &f);
+    put_word(&mut line, word, word_width(s.config.kind));
+    line.put_spaces(2);
+    put_marks(&mut line, row);
+    line.print(rt)
 }
 
 // All cycles of a trace, with their rows and words.
@@ -143,11 +117,9 @@ pub fn print_rows(
 ) -> io::Result<()>
     requires { (length rows.now ≡ frames trace.now) × (length words.now ≡ frames trace.now) }
 {
-    print_names(rt, s)?;
-    let mut t = 0;
-    while t < rows.len() {
-        print_row(rt, s, t, frame_at(trace, t), rows[t], words[t])?;
-        t += 1;
+    print_names(rt, &s)?;
+    for (t, (row, word)) in rows.iter().zip(words).enumerate() {
+        print_row(rt, &s, t, frame_at(trace, t), *row, *word)?;
     }
     Ok(())
 }

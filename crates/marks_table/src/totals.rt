@@ -1,31 +1,20 @@
 // How many cycles have each mark.
-use crate::names::put_name;
+use crate::names::{ALL_MARKS, name_of};
 use counts::totals;
-use marks_line::{end_line, new_line, put, put_number};
+use marks_line::Line;
+use rules::MARKS;
 use std::io;
 
-// A mark and how many cycles have it.
-fn put_total(line: &mut [u8; 256], at: usize, mark: u32, count: u32) -> usize {
-    let name = put_name(line, at, mark);
-    let space = put(line, name, b" ");
-    put_number(line, space, count as u64)
-}
-
 pub fn print_totals(rt: &impl Print, rows: &[u32]) -> io::Result<()> {
-    let r = totals(rows);
-    let counts = r.counts;
-    let mut line = new_line();
-    let mut at = put(&mut line, 0, b"totals: ");
-    at = put_total(&mut line, at, 1, counts[0]);
-    at = put(&mut line, at, b", ");
-    at = put_total(&mut line, at, 2, counts[1]);
-    at = put(&mut line, at, b", ");
-    at = put_total(&mut line, at, 4, counts[2]);
-    at = put(&mut line, at, b", ");
-    at = put_total(&mut line, at, 8, counts[3]);
-    at = put(&mut line, at, b", ");
-    at = put_total(&mut line, at, 16, counts[4]);
-    at = put(&mut line, at, b", ");
-    at = put_total(&mut line, at, 32, counts[5]);
-    end_line(rt, &line, at)
+    let counts = totals(rows).unwrap_or([0; MARKS]);
+    let mut line = Line::new();
+    let mut between = "totals: ";
+    for (mark, count) in ALL_MARKS.iter().zip(counts.iter()) {
+        line.put(between);
+        line.put(name_of(*mark));
+        line.put(" ");
+        line.put_number(u64::from(*count));
+        between = ", ";
+    }
+    line.print(rt)
 }

@@ -1,94 +1,91 @@
 // The head of the table: the checker, and what is taken for wires that are not connected.
 use bus::Range;
-use marks_args::{ENABLE, P, Q, R, RESET, Settings, is_given};
-use report::{number, text};
-use rules::Config;
+use marks_args::{Keyword, Settings};
+use rules::{Config, FATAL, Family};
 use std::io;
 
-// A port's name and its range.
-fn print_port(rt: &impl Print, name: &[u8], range: Range) -> io::Result<()> {
-    text(rt, b", ")?;
-    text(rt, name)?;
-    text(rt, b" [")?;
-    number(rt, range.left as u64)?;
-    text(rt, b":")?;
-    number(rt, range.right as u64)?;
-    text(rt, b"]")
+// A port that the kind uses.
+#[derive(Clone, Copy)]
+struct Port {
+    name: &'static str,
+    keyword: Keyword,
+    range: Range,
 }
 
-// Whether the kind uses Q, and whether it uses R.
-fn uses_q(kind: u8) -> bool {
-    2 < kind
-}
-
-fn uses_r(kind: u8) -> bool {
-    kind == 6
-}
-
-fn print_ports(rt: &impl Print, c: Config) -> io::Result<()> {
-    let p = c.p;
-    let q = c.q;
-    let r = c.r;
-    print_port(rt, b"P", p)?;
-    if uses_q(c.kind) {
-        print_port(rt, b"Q", q)?;
+// P; Q of all kinds but 0 to 2; and R of kind 6.
+fn ports(c: Config) -> [Option<Port>; 3] {
+    let family = Family::try_from(c.kind).ok();
+    let p = Port {
+        name: "P",
+        keyword: Keyword::P,
+        range: c.p,
+    };
+    let q = Port {
+        name: "Q",
+        keyword: Keyword::Q,
+        range: c.q,
+    };
+    let r = Port {
+        name: "R",
+        keyword: Keyword::R,
+        range: c.r,
+    };
+    match family {
+        Some(Family::Sequence) => [Some(p), None, None],
+        Some(Family::Transition) => [Some(p), Some(q), Some(r)],
+        _ => [Some(p), Some(q), None],
     }
-    if uses_r(c.kind) {
-        print_port(rt, b"R", r)?;
-    }
-    Ok(())
+}
+
+// Whether the kind is 7 or 8, which have min and read enable.
+fn has_window(kind: u8) -> bool {
+    matches!(
+        Family::try_from(kind),
+        Ok(Family::Value | Family::Stability)
+    )
 }
 
 // The checker, as the arguments give it.
 fn print_checker(rt: &impl Print, c: Config) -> io::Result<()> {
-    text(rt, b"kind ")?;
-    number(rt, c.kind as u64)?;
-    text(rt, b", n ")?;
-    number(rt, c.n as u64)?;
-    print_ports(rt, c)?;
-    if 6 < c.kind {
-        text(rt, b", min ")?;
-        number(rt, c.min as u64)?;
+    let Config {
+        kind,
+        n,
+        min,
+        value,
+        ..
+    } = c;
+    print!(rt; "kind {kind}, n {n}")?;
+    for port in ports(c).into_iter().flatten() {
+        let Port { name, range, .. } = port;
+        let Range { left, right } = range;
+        print!(rt; ", {name} [{left}:{right}]")?;
     }
-    if c.kind == 7 {
-        text(rt, b", value ")?;
-        number(rt, c.value as u64)?;
+    if has_window(kind) {
+        print!(rt; ", min {min}")?;
     }
-    if c.severity == 1 {
-        text(rt, b", fatal")?;
+    if let Ok(Family::Value) = Family::try_from(kind) {
+        print!(rt; ", value {value}")?;
     }
-    text(rt, b"\n")
-}
-
-// A port that the kind uses and nothing is connected to.
-fn print_unconnected(rt: &impl Print, s: Settings) -> io::Result<()> {
-    let c = s.config;
-    if !is_given(s, P) {
-        text(rt, b"P is not connected and is taken as 0\n")?;
+    if c.severity == FATAL {
+        rt.print(", fatal")?;
     }
-    if uses_q(c.kind) {
-        if !is_given(s, Q) {
-            text(rt, b"Q is not connected and is taken as 0\n")?;
-        }
-    }
-    if uses_r(c.kind) {
-        if !is_given(s, R) {
-            text(rt, b"R is not connected and is taken as 0\n")?;
-        }
-    }
-    Ok(())
+    rt.print("\n")
 }
 
 pub fn print_head(rt: &impl Print, s: Settings) -> io::Result<()> {
     let c = s.config;
     print_checker(rt, c)?;
-    if !is_given(s, RESET) {
-        text(rt, b"reset is not connected and is taken as 1\n")?;
+    if !s.is_given(Keyword::Reset) {
+        rt.println("reset is not connected and is taken as 1")?;
     }
-    if 6 < c.kind {
-        if !is_given(s, ENABLE) {
-            text(rt, b"enable is not connected and is taken as 1\n")?;
+    if has_window(c.kind) && !s.is_given(Keyword::Enable) {
+        rt.println("enable is not connected and is taken as 1")?;
+    }
+    for port in ports(c).into_iter().flatten() {
+        let Port { name, keyword, .. } = port;
+        if !s.is_given(keyword) {
+            println!(rt; "{name} is not connected and is taken as 0")?;
         }
     }
-    print_unconnected(rt, s)
+    Ok(())
 }

@@ -6,7 +6,7 @@ ghost use Rattle.rules.specs.Config.Family.{sequence, transition, stability};
 ghost use Rattle.rules.specs.Possible.{going_possible};
 
 use bits::low_ones;
-use rules::{Config, REFERENCE_HELD, REFERENCE_UNIT};
+use rules::{Config, Family, REFERENCE_HELD, REFERENCE_UNIT};
 use std::num::{wrapping_add_u64, wrapping_sub_u64};
 
 // 0 exactly where some trace leaves the word of a checker that goes on.
@@ -14,15 +14,11 @@ pub fn misfit(c: Config, word: u64) -> u64
     requires { Good c }
     ensures { (result == 0) ≡ going_possible c word }
 {
-    let kind = c.kind;
-    let n = c.n;
-    match kind {
-        0..=2 => attempts_misfit(c, word),
-        3..=5 => above(word, n as u64, 32),
-        6 => stored_misfit(c, word),
-        7 => above(word, n as u64, 32),
-        8 => window_misfit(c, word),
-        9..=255 => 1,
+    match c.family() {
+        Family::Sequence => attempts_misfit(c, word),
+        Family::Time | Family::Value => above(word, c.n as u64, 32),
+        Family::Transition => stored_misfit(c, word),
+        Family::Stability => window_misfit(c, word),
     }
 }
 
@@ -55,6 +51,7 @@ fn attempts_misfit(c: Config, word: u64) -> u64
     ensures { (result == 0) ≡ going_possible c word }
 {
     let high = word >> (c.n - 1);
+    // The kinds of a family are told apart by the number that the C interface has for them.
     if c.kind == 2 {
         return high | second_one(word);
     }
@@ -66,8 +63,7 @@ fn stored_misfit(c: Config, word: u64) -> u64
     requires { (Good c) × (family c.kind ≡ transition) }
     ensures { (result == 0) ≡ going_possible c word }
 {
-    let p = c.p;
-    above(word, 0x1_0000_0000 + low_ones(p.width()), 33) | untagged(word, 32, 0)
+    above(word, 0x1_0000_0000 + low_ones(c.p.width()), 33) | untagged(word, 32, 0)
 }
 
 // Kind 8: the word is 0, the cycles left of a window without a reference, or those of one with a reference of the width.
@@ -75,8 +71,7 @@ fn window_misfit(c: Config, word: u64) -> u64
     requires { (Good c) × (family c.kind ≡ stability) }
     ensures { (result == 0) ≡ going_possible c word }
 {
-    let p = c.p;
-    let limit = REFERENCE_HELD + low_ones(p.width() + 16);
+    let limit = REFERENCE_HELD + low_ones(c.p.width() + 16);
     above(word, limit, 49) | untagged(word, 48, 16) | cycles_misfit(c, word)
 }
 

@@ -5,6 +5,7 @@ ghost use Rattle.numbered.specs.Numbered.{config_of};
 use bus::Range;
 use rules::Config;
 
+// The C interface has eleven numbers for a configuration, and no struct.
 pub fn config_of(
     kind: u8,
     n: u32,

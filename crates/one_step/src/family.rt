@@ -1,5 +1,5 @@
 // The family of a kind decides which step there is. It is not offered to the viewer.
-ghost use Rattle.std.specs.Prelude.{◌≡◌, ◌<◌, T};
+ghost use Rattle.std.specs.Prelude.{◌≡◌, T};
 ghost use Rattle.rules.specs.Config.{Good};
 ghost use Rattle.rules.specs.Possible.{possible};
 ghost use Rattle.rules.specs.Step.{Steps};
@@ -7,7 +7,7 @@ ghost use Rattle.rules.specs.Step.{Steps};
 use cycle::Outcome;
 use expected::expected_wires;
 use fatal::{going_on, stop_at_failure};
-use rules::{Config, FATAL, Frame, STOPPED};
+use rules::{Config, FATAL, Family, Frame, STOPPED};
 use sequence::sequence_cycle;
 use stability::stability_cycle;
 use time::time_cycle;
@@ -36,23 +36,11 @@ fn going_step(c: Config, word: u64, frame: Frame) -> Outcome
     requires { (Good c) × (c.severity ≡ 0) × (T (possible c word)) }
     ensures { Steps c word frame result.row result.word }
 {
-    let kind = c.kind;
-    match kind {
-        0..=2 => sequence_cycle(c, word, frame),
-        3..=5 => time_cycle(c, word, frame),
-        6 => transition_cycle(c, word, frame),
-        7..=8 => after_trigger(c, word, frame),
-        9..=255 => Outcome { row: 0, word: 0 },
+    match c.family() {
+        Family::Sequence => sequence_cycle(c, word, frame),
+        Family::Time => time_cycle(c, word, frame),
+        Family::Transition => transition_cycle(c, word, frame),
+        Family::Value => value_cycle(c, expected_wires(c), word, frame),
+        Family::Stability => stability_cycle(c, word, frame),
     }
-}
-
-// One step of kind 7 or 8.
-fn after_trigger(c: Config, word: u64, frame: Frame) -> Outcome
-    requires { (Good c) × (c.severity ≡ 0) × (T (possible c word)) × (6 < c.kind) }
-    ensures { Steps c word frame result.row result.word }
-{
-    if c.kind == 7 {
-        return value_cycle(c, expected_wires(c), word, frame);
-    }
-    stability_cycle(c, word, frame)
 }

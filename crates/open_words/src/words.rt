@@ -3,10 +3,11 @@ ghost use Rattle.std.specs.Prelude.{◌≡◌, ◌&&◌, ◌-◌, ◌^◌, ◌<�
 ghost use Rattle.rules.specs.Config.{Good, family};
 ghost use Rattle.rules.specs.Config.Family.{stability};
 ghost use Rattle.rules.specs.Possible.{without_reference, with_a_reference, going_possible, can_fail, possible, word_refusal};
+ghost use Rattle.rules.specs.Refusals.{refusal_of, cycle_of};
 
 use bits::low_ones;
 use config::config_refusal;
-use rules::{Config, FATAL, REFERENCE_HELD, REFERENCE_UNIT, STOPPED};
+use rules::{Config, FATAL, Family, REFERENCE_HELD, REFERENCE_UNIT, Refusal, STOPPED};
 
 // Whether some trace leaves the word: 2^63 that of a fatal checker, which has failed.
 pub fn is_possible(c: Config, word: u64) -> bool
@@ -21,9 +22,13 @@ pub fn is_possible(c: Config, word: u64) -> bool
 
 // Whether a checker can fail. Kind 8 with min equal to max has no reference before the one cycle that is tested.
 fn can_fail(c: Config) -> bool
+    requires { Good c }
     ensures { result ≡ can_fail c }
 {
-    !((c.kind == 8) & (c.min == c.n))
+    match c.family() {
+        Family::Stability => c.min != c.n,
+        _ => true,
+    }
 }
 
 // Whether some trace leaves the word of a checker that goes on.
@@ -31,27 +36,26 @@ fn is_unfinished(c: Config, word: u64) -> bool
     requires { Good c }
     ensures { result ≡ going_possible c word }
 {
-    let kind = c.kind;
-    let n = c.n;
-    let p = c.p;
-    match kind {
-        0..=2 => (word <= low_ones(n - 1)) & ((kind != 2) | (u64::count_ones(word) <= 1)),
-        3..=5 => word <= n as u64,
-        6 => (word == 0) | is_stored(word, p.width()),
-        7..=8 => is_window(c, word),
-        9..=255 => false,
+    match c.family() {
+        Family::Sequence => (word <= low_ones(c.n - 1))
+            & ((c.kind != 2) | (u64::count_ones(word) <= 1)),
+        Family::Time | Family::Value => word <= c.n as u64,
+        Family::Transition => (word == 0) | is_stored(word, c.p.width()),
+        Family::Stability => (word == 0) | has_no_reference(c, word) | has_reference(c, word),
     }
 }
 
-// 0 for a configuration and a word that a step takes, else 1, 2, 3 or 7.
-pub fn refusal(c: Config, word: u64) -> u32
-    ensures { result ≡ word_refusal c word }
+// Refuses a configuration, or an open word that no trace leaves: a step takes what is not refused.
+pub fn refusal(c: Config, word: u64) -> Result<(), Refusal>
+    ensures number { refusal_of result ≡ word_refusal c word }
+    ensures no_cycle { cycle_of result ≡ 0 }
 {
-    let refused = config_refusal(c);
-    if refused != 0 {
-        return refused;
+    config_refusal(c)?;
+    if is_possible(c, word) {
+        Ok(())
+    } else {
+        Err(Refusal::OpenWord(0))
     }
-    if is_possible(c, word) { 0 } else { 7 }
 }
 
 // Whether the word holds a stored value of that width: 2^32 and a value below 2^width.
@@ -63,17 +67,6 @@ fn is_stored(word: u64, width: u32) -> bool
         return false;
     }
     word - 0x1_0000_0000 <= low_ones(width)
-}
-
-// Kinds 7 and 8: whether the word is that of a window, or 0.
-fn is_window(c: Config, word: u64) -> bool
-    requires { (Good c) × (6 < c.kind) }
-    ensures { result ≡ going_possible c word }
-{
-    if c.kind == 7 {
-        return word <= c.n as u64;
-    }
-    (word == 0) | has_no_reference(c, word) | has_reference(c, word)
 }
 
 // Whether the word is that of a window of kind 8 that has compared no cycle: from s+min on none was enabled, or the tracked value was unknown.

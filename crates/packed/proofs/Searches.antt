@@ -18,9 +18,6 @@ module _ (checkers cycles : ℕ) (rows : List ℕ) where
       → SearchAnswer checkers cycles rows r f k t → Unpacked x
   from x r k t d f er ed ef ek et a = rw (er, ed, ef, ek, et) a
 
-  pub refused-packed : (r : ℕ) → SearchAnswer checkers cycles rows r false 0 0 → Unpacked (4294967296 * r)
-  refused-packed r a = from (4294967296 * r) r 0 0 0 false (omega arith) (omega arith) refl (omega arith) (omega arith) a
-
   -- what is found lies among 64 checkers and 65,536 cycles
   pub record Small (k t : ℕ) : Type 0 where
     pub checker-low : k < 64

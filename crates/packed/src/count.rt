@@ -9,6 +9,8 @@ use rules::Config;
 pub fn packed_open_count(config: Config, word: u64) -> u32
     ensures { CountAnswer config word (result / 256) (result % 256) }
 {
-    let result = open_count(config, word);
-    256 * result.refusal + result.count
+    match open_count(config, word) {
+        Ok(count) => count,
+        Err(refusal) => 256 * refusal.number(),
+    }
 }

@@ -10,6 +10,8 @@ use rules::Config;
 pub fn packed_failures(config: Config, trace: &[u32], list: &mut [u32]) -> u64
     ensures { ListAnswer config trace.now list.old list.new (result / 4294967296) (result % 4294967296) }
 {
-    let result = failures(config, trace, list);
-    0x1_0000_0000 * result.refusal as u64 + result.count as u64
+    match failures(config, trace, list) {
+        Ok(count) => count as u64,
+        Err(refusal) => 0x1_0000_0000 * refusal.number() as u64,
+    }
 }

@@ -12,19 +12,16 @@ use Rattle.rules.specs.declared.config.Config.{Config}
 use Rattle.rules.specs.Config.{Good}
 use Rattle.rules.specs.Rules.{word_before}
 use Rattle.trace.specs.Traces.{frames, frame_at}
-use Rattle.listed.specs.Lists.{Entry, failures_to, words_of}
-use Rattle.entries.specs.Entries.{Stored}
-use Rattle.blocks.specs.Blocks.{entries_from, Counted, Passing}
+use Rattle.listed.specs.Lists.{Entry, words_of}
+use Rattle.blocks.specs.Blocks.{entries_from, Passing}
 use Rattle.blocks.proofs.Stretches.{entries-all}
 use Rattle.passes.specs.Listed.{failures_of}
+use Rattle.passes.specs.Visits.{CountDoes, WriteDoes}
 
 -- ---- numbers of a pass: it has come to cycle t of n, and goes m cycles on
 
 pub place-fits : {t n : ℕ} → t ≤ n → n ≤ 65536 → Fits w64 t
 place-fits h l = omega arith
-
-pub count_fits : {n : ℕ} (t m x y : ℕ) → x ≤ 64 * t → y ≤ 64 * m → t + m ≤ n → n ≤ 65536 → Fits w64 (x + y)
-count_fits t m x y a b h l = omega arith
 
 pub left-falls : (n t m : ℕ) → t < n → 0 < m → n - (t + m) < n - t
 left-falls n t m l h = omega arith
@@ -39,13 +36,13 @@ module _ (c : Config) (trace : List ℕ) where
   unfolding word_before
   passing-none good short = record { good = good; short = short; word_is = refl }
 
-  module _ (t : ℕ) (all : t ≡ frames trace) where
-    entries-are : entries_from c (frame_at trace) 0 t ≡ failures_of c trace
-    unfolding failures_of
-    entries-are = entries-all c (frame_at trace) t ∙ ap (failures_to c (frame_at trace)) all
+  entries-are : entries_from c (frame_at trace) 0 (frames trace) ≡ failures_of c trace
+  unfolding failures_of
+  entries-are = entries-all c (frame_at trace) (frames trace)
 
-    pub counted-all : {count : ℕ} → frames trace ≤ 65536 → Counted c (frame_at trace) 0 t count → (count ≡ length (failures_of c trace)) × (count ≤ 64 * 65536)
-    counted-all short d = (d.is ∙ ap length entries-are, omega (arith, d.few))
+  pub counted-all : {list list' : List ℕ} {count : ℕ} → frames trace ≤ 65536 → CountDoes c (frame_at trace) 0 (frames trace) list 0 list' count
+      → (count ≡ length (failures_of c trace)) × (count ≤ 64 * 65536)
+  counted-all short d = (omega (arith, d.next_is, d.counted.is, ap length entries-are), omega (arith, d.next_is, d.counted.few))
 
-    pub stored-all : {list list' : List ℕ} {at : ℕ} → Stored (entries_from c (frame_at trace) 0 t) list 0 list' at → list' ≡ sets list 0 (words_of (failures_of c trace))
-    stored-all {list} s = s.list_is ∙ ap (λ (es : List Entry). sets list 0 (words_of es)) entries-are
+  pub stored-all : {list list' : List ℕ} {at : ℕ} → WriteDoes c (frame_at trace) 0 (frames trace) list 0 list' at → list' ≡ sets list 0 (words_of (failures_of c trace))
+  stored-all {list} s = s.list_is ∙ ap (λ (es : List Entry). sets list 0 (words_of es)) entries-are

@@ -1,2 +1,3 @@
 -- The entries of a lent trace.
 pub mod Listed
+pub mod Visits

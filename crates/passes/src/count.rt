@@ -3,29 +3,48 @@ ghost use Rattle.std.specs.Prelude.{◌≡◌, ◌*◌, ◌≤◌, length};
 ghost use Rattle.rules.specs.Config.{Good};
 ghost use Rattle.trace.specs.Traces.{frames};
 ghost use Rattle.passes.specs.Listed.{failures_of};
+ghost use Rattle.passes.specs.Visits.{CountAsks, CountDoes, CountHolds, count_none, count_more, count_fits, count_long};
 
-use blocks::{count_block, run_block};
-use marked::BLOCK;
+use super::pass::{Visit, pass};
+use blocks::{BlockRun, Buffers, count_block};
 use rules::Config;
-use trace::frames_in;
+
+// Adds the number of entries of a block, and leaves the list as it is.
+struct Count;
+
+impl Visit for Count {
+    ghost asks = { CountAsks };
+
+    ghost does = { CountDoes };
+
+    ghost holds = { CountHolds };
+
+    ghost none = { count_none };
+
+    ghost more = { count_more };
+
+    ghost fits = { count_fits };
+
+    ghost as_long = { count_long };
+
+    fn visit(
+        c: Config,
+        trace: &[u32],
+        t: usize,
+        word: u64,
+        block: BlockRun,
+        buffers: &Buffers,
+        _list: &mut [u32],
+        at: usize,
+    ) -> usize {
+        at + count_block(c, trace, t, word, block, buffers)
+    }
+}
 
 // Counts the entries of a trace, block after block.
 pub fn count_all(c: Config, trace: &[u32]) -> usize
     requires { (Good c) × (frames trace.now ≤ 65536) }
     ensures { (result ≡ length (failures_of c trace.now)) × (result ≤ 64 * 65536) }
 {
-    let cycles = frames_in(trace.len());
-    let mut rows = [0u32; BLOCK];
-    let mut words = [0u64; BLOCK];
-    let mut picked = [0usize; BLOCK];
-    let mut word: u64 = 0;
-    let mut count: usize = 0;
-    let mut t: usize = 0;
-    while t < cycles {
-        let block = run_block(c, trace, t, word, &mut rows, &mut words, &mut picked);
-        count += count_block(c, trace, t, word, block, &rows, &words, &picked);
-        word = block.word;
-        t += block.cycles;
-    }
-    count
+    pass::<Count>(c, trace, &mut [])
 }

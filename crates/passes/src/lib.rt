@@ -2,6 +2,7 @@
 #![tactic(auto)]
 
 mod count;
+mod pass;
 mod write;
 
 pub use count::count_all;

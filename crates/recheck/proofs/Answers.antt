@@ -7,7 +7,10 @@ use native.Mathlib.Omega.{arith}
 use borrow.Author.Tests.{eqb-false}
 use lib.Dec.{T}
 use lib.IntN.{ℤ, pos, sub_ℕ}
-use lib.ListN.{length, get_or}
+use lib.ListN.{length, get_or, replicate, length-replicate, get_or-replicate}
+use Rattle.rules.specs.declared.refusal.Refusal.{Refusal}
+use Rattle.rules.specs.Refusals.{number_of, cycle_named}
+use Rattle.rules.proofs.Refusals.{is-refused}
 use Rattle.rules.specs.declared.config.Config.{Config}
 use Rattle.rules.specs.Config.{Good}
 use Rattle.rules.specs.Possible.{possible}
@@ -64,16 +67,20 @@ module _ (c : Config) (trace rows words : List ℕ) (a b : ℕ) where
       of-false l.impossible (every-elim (length words) (λ s. possible c (get_or words s 0)) (true-possible c good old rows words was) t l.in_record)
 
   -- a refused recheck has altered nothing, and no old trace asks for more
-  pub not_done : (r t e : ℕ) (changes : List ℤ) → Refused c trace rows words a b r t → (r ≡ 0 → ⊥) → e ≡ 0 → length changes ≡ marks
-      → ((i : ℕ) → i < marks → get_or changes i (pos 0) ≡ pos 0) → RecheckAnswer c trace rows words a b rows words r t e changes
-  not_done r t e changes q h end all_marks zeros = record {
-    tested = q;
-    all_marks = all_marks;
-    done = λ z. absurd (h z);
-    refused = λ _. record { rows_kept = refl; words_kept = refl; end_is = end; changes_are = zeros };
-    never_spoiled = λ good old was seven. not-lowest good old was (q.named.spoiled seven);
-    demand = λ good fits low high old edited true-old. absurd (h (q.refusal_is ∙ demand-accepted c good trace rows words a b fits low high old edited true-old));
-  }
+  pub not_done : (e : Refusal) → Refused c trace rows words a b (number_of e) (cycle_named e)
+      → RecheckAnswer c trace rows words a b rows words (number_of e) (cycle_named e) 0 (replicate marks (pos 0))
+  not_done e q =
+      let some = is-refused e in
+      record {
+        tested = q;
+        all_marks = length-replicate marks (pos 0);
+        done = λ z. absurd (omega arith);
+        refused = λ _. record { rows_kept = refl; words_kept = refl; end_is = refl; changes_are = λ i h. get_or-replicate marks i (pos 0) (pos 0) h };
+        never_spoiled = λ good old was seven. not-lowest good old was (q.named.spoiled seven);
+        demand =
+            λ good fits low high old edited true-old.
+            let z = q.refusal_is ∙ demand-accepted c good trace rows words a b fits low high old edited true-old in absurd (omega arith);
+      }
 
   -- what the run leaves is the recheck's answer
   pub all_done : (rows' words' : List ℕ) (e : ℕ) (counts : List ℕ) (changes : List ℤ) → Refused c trace rows words a b 0 0 → a ≤ b

@@ -1,2 +1,3 @@
 -- What the contract of the recheck cites.
 pub mod Rechecks
+pub mod Answers

@@ -3,4 +3,4 @@
 
 mod edit;
 
-pub use edit::{RecheckResult, recheck};
+pub use edit::{RecheckResult, Rechecked, recheck};

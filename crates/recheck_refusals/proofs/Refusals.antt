@@ -31,7 +31,7 @@ module _ (c : Config) (trace rows words : List ℕ) (a b : ℕ) where
       by true false s x e = e
       by false q s x e = e
 
-  check-low : check_refusal c trace rows words ≤ 6
+  pub check-low : check_refusal c trace rows words ≤ 6
   unfolding check_refusal
   check-low = by (eqb (config_refusal c) 0) (trace_fits trace) (record_fits trace rows words)
     where
@@ -47,10 +47,6 @@ module _ (c : Config) (trace rows words : List ℕ) (a b : ℕ) where
 
   pub refused-first : (r : ℕ) → r ≡ check_refusal c trace rows words → (r ≡ 0 → ⊥) → Refused c trace rows words a b r 0
   refused-first r is h = record { refusal_is = refused-as-check r is h; named = named_none r (omega (arith, check-low)) }
-
-  -- what is not refused, with its numbers
-  pub refused-zero : (r t : ℕ) → Refused c trace rows words a b r t → r ≡ 0 → Refused c trace rows words a b 0 0
-  refused-zero r t q z = record { refusal_is = sym z ∙ q.refusal_is; named = named_none 0 zero-le }
 
   module _ (z : check_refusal c trace rows words ≡ 0) where
     ok : Accepted c trace rows words

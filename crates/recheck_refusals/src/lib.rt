@@ -3,4 +3,4 @@
 
 mod tests;
 
-pub use tests::{Tested, recheck_refusal};
+pub use tests::recheck_refusal;

@@ -1,19 +1,13 @@
 // The tests of a recheck, in the order of their numbers.
 ghost use Rattle.std.specs.Prelude.{List, ◌≡◌, ℕ, length};
+ghost use Rattle.rules.specs.Refusals.{refusal_of, cycle_of};
 ghost use Rattle.recheck_refusals.specs.Refusals.{Refused};
 
 use kept_words::first_impossible;
 use lengths::lengths_refusal;
-use rules::Config;
+use rules::{Config, Refusal};
 
-// The refusal number or 0, and with 7 the lowest cycle whose word is impossible, else 0.
-#[derive(Clone, Copy)]
-pub struct Tested {
-    pub refusal: u32,
-    pub cycle: usize,
-}
-
-// The refusal of a configuration, of the lengths of a trace and its rows, of the kept words and of a range of cycles: 0, or 1 to 7.
+// Refuses a configuration, the lengths of a trace and its rows, the kept words and a range of cycles: a kept word that is impossible with its cycle, the lowest.
 pub fn recheck_refusal(
     c: Config,
     trace: usize,
@@ -21,31 +15,16 @@ pub fn recheck_refusal(
     words: &[u64],
     a: usize,
     b: usize,
-) -> Tested
-    ensures { (ts rs : List ℕ) → length ts ≡ trace → length rs ≡ rows → Refused c ts rs words.now a b result.refusal result.cycle }
+) -> Result<(), Refusal>
+    ensures { (ts rs : List ℕ) → length ts ≡ trace → length rs ≡ rows → Refused c ts rs words.now a b (refusal_of result) (cycle_of result) }
 {
-    let refused = lengths_refusal(c, trace, rows, words.len());
-    if refused != 0 {
-        return Tested {
-            refusal: refused,
-            cycle: 0,
-        };
-    }
+    lengths_refusal(c, trace, rows, words.len())?;
     if !((a <= b) & (b <= rows)) {
-        return Tested {
-            refusal: 6,
-            cycle: 0,
-        };
+        return Err(Refusal::EditRange);
     }
     let spoiled = first_impossible(c, words);
     if spoiled < words.len() {
-        return Tested {
-            refusal: 7,
-            cycle: spoiled,
-        };
+        return Err(Refusal::OpenWord(spoiled));
     }
-    Tested {
-        refusal: 0,
-        cycle: 0,
-    }
+    Ok(())
 }

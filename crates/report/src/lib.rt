@@ -1,10 +1,8 @@
 // What the programs write to standard output.
 #![tactic(auto)]
 
-ghost use Rattle.std.specs.Prelude.{pos, ◌<ℤ◌};
-
-use failures::FailureCount;
 use recheck::RecheckResult;
+use rules::{Refusal, refusal_number};
 use std::io;
 
 pub fn text(rt: &impl Print, bytes: &[u8]) -> io::Result<()> {
@@ -15,87 +13,38 @@ pub fn number(rt: &impl Print, n: u64) -> io::Result<()> {
     rt.print(n)
 }
 
-// A space and a number.
-fn spaced(rt: &impl Print, n: u64) -> io::Result<()> {
-    text(rt, b" ")?;
-    number(rt, n)
-}
-
-fn end_of_line(rt: &impl Print) -> io::Result<()> {
-    text(rt, b"\n")
-}
-
 // Numbers, each after a space.
-pub fn spaced_numbers(rt: &impl Print, values: &[u32]) -> io::Result<()> {
-    for t in 0..values.len() {
-        spaced(rt, values[t] as u64)?;
-    }
-    Ok(())
-}
-
-pub fn spaced_words(rt: &impl Print, values: &[u64]) -> io::Result<()> {
-    for t in 0..values.len() {
-        spaced(rt, values[t])?;
+pub fn spaced_numbers<T: Copy + Into<u64>>(rt: &impl Print, values: &[T]) -> io::Result<()> {
+    for value in values {
+        let n: u64 = (*value).into();
+        print!(rt; " {n}")?;
     }
     Ok(())
 }
 
 // A name and numbers on a line.
-pub fn numbers(rt: &impl Print, name: &[u8], values: &[u32]) -> io::Result<()> {
+pub fn numbers<T: Copy + Into<u64>>(rt: &impl Print, name: &[u8], values: &[T]) -> io::Result<()> {
     text(rt, name)?;
     spaced_numbers(rt, values)?;
-    end_of_line(rt)
-}
-
-pub fn words(rt: &impl Print, values: &[u64]) -> io::Result<()> {
-    text(rt, b"words")?;
-    spaced_words(rt, values)?;
-    end_of_line(rt)
+    text(rt, b"\n")
 }
 
 // A list's refusal, how many entries it has, and the lent slice.
-pub fn list(rt: &impl Print, r: FailureCount, values: &[u32]) -> io::Result<()> {
-    text(rt, b"refusal")?;
-    spaced(rt, r.refusal as u64)?;
-    text(rt, b" count")?;
-    spaced(rt, r.count as u64)?;
+pub fn list(rt: &impl Print, r: Result<usize, Refusal>, values: &[u32]) -> io::Result<()> {
+    let count = r.unwrap_or(0);
+    print!(rt; "refusal {} count {count}", refusal_number(&r))?;
     numbers(rt, b" list", values)
 }
 
 // A recheck's refusal, with 7 the cycle whose word is impossible, its end, and the changes of the marks 1, 2, 4, 8, 16 and 32.
 pub fn answer(rt: &impl Print, r: RecheckResult) -> io::Result<()> {
-    text(rt, b"refusal")?;
-    spaced(rt, r.refusal as u64)?;
+    print!(rt; "refusal {}", r.refusal)?;
     if r.refusal == 7 {
-        text(rt, b" cycle")?;
-        spaced(rt, r.cycle as u64)?;
+        print!(rt; " cycle {}", r.cycle)?;
     }
-    text(rt, b" end")?;
-    spaced(rt, r.end as u64)?;
-    text(rt, b" changes")?;
-    let changes = r.changes;
-    signed(rt, changes[0])?;
-    signed(rt, changes[1])?;
-    signed(rt, changes[2])?;
-    signed(rt, changes[3])?;
-    signed(rt, changes[4])?;
-    signed(rt, changes[5])?;
-    end_of_line(rt)
-}
-
-// A space and a number with its sign.
-fn signed(rt: &impl Print, n: i32) -> io::Result<()> {
-    if n < 0 {
-        text(rt, b" -")?;
-        number(rt, below_zero(n))
-    } else {
-        spaced(rt, n as u64)
+    print!(rt; " end {} changes", r.end)?;
+    for change in r.changes {
+        print!(rt; " {change}")?;
     }
-}
-
-// How far a negative number is below 0.
-fn below_zero(n: i32) -> u64
-    requires { n <ℤ pos 0 }
-{
-    (-1 - n) as u64 + 1
+    text(rt, b"\n")
 }

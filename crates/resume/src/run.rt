@@ -34,6 +34,7 @@ pub fn resume(
     let mut own = word;
     let mut kept = word;
     let mut tally = Tally::all(65536);
+    // Whether there is one more block depends on the words that the last one reached, so no range or iterator has the turns.
     while (t < n) & goes_on(t, b, own, kept) {
         let to = block_end(a, t, b, n);
         let old = marks_in(rows, t, to);

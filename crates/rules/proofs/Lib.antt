@@ -1,6 +1,8 @@
 -- Laws of the rules, and the claims about them.
 pub mod Cases
 pub mod Good
+pub mod Families
+pub mod Refusals
 pub mod Accepted
 pub mod Unknown
 pub mod Rows

@@ -1,5 +1,7 @@
 -- The rules of document 01 with what document 02 changed, a file a subject.
 pub mod Config
+pub mod Families
+pub mod Refusals
 pub mod Frame
 pub mod Checks
 pub mod Sequence

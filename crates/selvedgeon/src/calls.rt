@@ -13,6 +13,7 @@ use lent_totals::totals_into;
 use numbered::config_of;
 use packed_list::packed_failures;
 use record::full_check;
+use rules::refusal_number;
 
 // The full check: fills N rows and N open words. Answers the refusal number or 0; refused: both are as they were. Refusals 1 to 5.
 #[unsafe(no_mangle)]
@@ -37,7 +38,7 @@ pub extern "C" fn selvedgeon_check(
     let config = config_of(
         kind, n, p_left, p_right, q_left, q_right, r_left, r_right, min, value, severity,
     );
-    full_check(config, trace, rows, words)
+    refusal_number(&full_check(config, trace, rows, words))
 }
 
 // The recheck after an edit of cycles a to b-1. Answers 2^32 times the refusal and, where that is 7, the lowest cycle whose word is impossible; not refused, the

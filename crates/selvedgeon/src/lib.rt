@@ -1,4 +1,4 @@
-// What the C host calls: the proved calls, on numbers and lent slices.
+// What the C host calls: the proved calls, on numbers and lent slices. The C interface hands over a configuration as eleven numbers, and a slice as it is lent.
 #![tactic(auto)]
 
 mod calls;

@@ -1,8 +1,7 @@
 // The bench step over a lent table of configurations.
 ghost use Rattle.bench.specs.Bench.{BenchAnswer};
 
-use bench::{step_all, test_all};
-use bench_lengths::lengths_answer;
+use bench::bench;
 use rules::Config;
 
 // One step of every checker of the table, each on its own frame, word and row. Answers 0, or 256 times the refusal and the first bad checker's number (0 for
@@ -16,14 +15,8 @@ pub extern "C" fn selvedgeon_bench(
 ) -> u32
     ensures { BenchAnswer table.now frames.now words.old rows.old words.new rows.new result }
 {
-    let refused = lengths_answer(table.len(), frames.len(), words.len(), rows.len());
-    if refused != 0 {
-        return refused;
+    match bench(table, frames, words, rows) {
+        Ok(()) => 0,
+        Err(bad) => bad.number(),
     }
-    let bad = test_all(table, words);
-    if bad != 0 {
-        return bad;
-    }
-    step_all(table, frames, words, rows);
-    0
 }

@@ -107,8 +107,7 @@ fn in_order(c: Config, wires: u32) -> u64
     requires { (Good c) × (family c.kind ≡ sequence) }
     ensures { (i : ℕ) → i < c.n → bit result i ≡ bit (value_of c.p wires) (c.n - 1 - i) }
 {
-    let p = c.p;
-    p.turned().low_bits(wires) as u64
+    c.p.turned().low_bits(wires) as u64
 }
 
 // The same of the unknown wires. In most cycles there is none, and nothing has to be put in order.

@@ -11,6 +11,7 @@ pub fn changes_of(tally: Tally) -> [i32; MARKS]
     requires { (i : ℕ) → i < marks → get_or tally.counts i 0 ≤ 131072 }
     ensures { (length result ≡ marks) × ((i : ℕ) → i < marks → get_or result i (pos 0) ≡ sub_ℕ (get_or tally.counts i 0) 65536) }
 {
+    // `tally.counts.map(signed)` was tried: that each call meets what `signed` requires was not proved.
     let counts = tally.counts;
     let mut changes = [0i32; MARKS];
     for i in 0..MARKS {

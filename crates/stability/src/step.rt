@@ -66,15 +66,14 @@ pub fn tracked_in(c: Config, frame: Frame, word: u64, seen: Seen) -> Tracked
             known: true,
         };
     }
-    let p = c.p;
-    let value = p.masked_value(frame.samples[1]);
+    let value = c.p.masked_value(frame.samples[1]);
     let unknown = frame.samples[5];
     if unknown == 0 {
         return Tracked { value, known: true };
     }
     Tracked {
         value,
-        known: !p.has_one(unknown),
+        known: !c.p.has_one(unknown),
     }
 }
 
@@ -155,15 +154,7 @@ pub fn tracked_cycle(c: Config, word: u64, seen: Seen, t: Tracked) -> Outcome
     let enable = seen.enabled;
     // Where the value is known, as in most cycles, the step is compiled without the flag.
     if t.known {
-        return stability_step(
-            c,
-            word,
-            enable,
-            Tracked {
-                value: t.value,
-                known: true,
-            },
-        );
+        return stability_step(c, word, enable, Tracked { known: true, ..t });
     }
     stability_step(c, word, enable, t)
 }

@@ -11,24 +11,15 @@ pub fn seek(rows: &mut [u32], words: &mut [u64], s: Stretch) -> Reached
     ensures { Stayed s rows.old words.old rows.new words.new result }
 {
     let to = s.to;
-    let mut at = s.at;
+    let word = STOPPED;
     let mut kept = s.kept;
-    while at < to {
+    for at in s.at..to {
         if kept == STOPPED {
-            return Reached {
-                at,
-                word: STOPPED,
-                kept,
-            };
+            return Reached { at, word, kept };
         }
         kept = words[at];
         rows[at] = 0;
         words[at] = STOPPED;
-        at += 1;
     }
-    Reached {
-        at,
-        word: STOPPED,
-        kept,
-    }
+    Reached { at: to, word, kept }
 }

@@ -10,7 +10,5 @@ pub fn store_changes(answer: &mut [i32], end: i32, changes: [i32; MARKS])
     ensures { answer.new ≡ end ∷ changes }
 {
     answer[0] = end;
-    for i in 0..MARKS {
-        answer[1 + i] = changes[i];
-    }
+    answer[1..].copy_from_slice(&changes);
 }

@@ -6,7 +6,7 @@ ghost use Rattle.rules.specs.Rules.{marks};
 use rules::MARKS;
 
 // How often each mark was met: entry i counts the mark 2^i.
-#[derive(Clone, Copy)]
+#[derive(Clone, Copy, Debug, PartialEq, Eq)]
 pub struct Tally {
     pub counts: [u32; MARKS],
 }
@@ -27,6 +27,7 @@ impl Tally {
         ensures { (i : ℕ) → i < marks → get_or result.counts i 0 ≡ get_or self.counts i 0 + to_bit (bit row i) }
     {
         let mut counts = self.counts;
+        // The index is the mark's bit too.
         for i in 0..MARKS {
             counts[i] += (row >> i) % 2;
         }
@@ -42,6 +43,7 @@ impl Tally {
         let lost = old.counts;
         let gained = new.counts;
         let mut counts = self.counts;
+        // One index for three arrays is plainer than two `zip`s.
         for i in 0..MARKS {
             counts[i] = counts[i] + gained[i] - lost[i];
         }

@@ -5,7 +5,7 @@ ghost use Rattle.rules.specs.Config.Family.{time};
 ghost use Rattle.rules.specs.Possible.{possible};
 ghost use Rattle.rules.specs.Step.{StepsTo, Steps};
 
-use cycle::{Outcome, out_of_reset, row_of, sample};
+use cycle::{Marks, Outcome, out_of_reset, sample};
 use rules::{Config, Frame, OPENED, RESTARTED};
 
 // The open word is the number of pending cycles left, this one included.
@@ -13,9 +13,7 @@ fn time_step(c: Config, word: u64, frame: Frame) -> Outcome
     requires { (Good c) × (family c.kind ≡ time) }
     ensures { StepsTo time c word frame result.row result.word }
 {
-    let p = c.p;
-    let q = c.q;
-    let start = p.wire(sample(frame, 1));
+    let start = c.p.wire(sample(frame, 1));
     let window = c.n as u64;
     // Nothing is pending, so nothing is tested.
     if word == 0 {
@@ -28,26 +26,25 @@ fn time_step(c: Config, word: u64, frame: Frame) -> Outcome
             Outcome { row: 0, word: 0 }
         };
     }
-    // The window of kind 4 begins again, as an opened one, and this cycle is not tested.
+    // The window of kind 4 begins again, as an opened one, and this cycle is not tested. Kinds of a family go by the C interface's number.
     if start & (c.kind == 4) {
         return Outcome {
             row: OPENED | RESTARTED,
             word: window,
         };
     }
-    let test = q.wire(sample(frame, 2));
-    let unknown = q.wire(frame.samples[6]);
-    let left = word - 1;
+    let test = c.q.wire(sample(frame, 2));
+    let unknown = c.q.wire(frame.samples[6]);
+    let marks = Marks {
+        failure: !test & !unknown,
+        illegal: start & (c.kind == 5),
+        closed: word == 1,
+        unknown,
+        ..Marks::default()
+    };
     Outcome {
-        row: row_of(
-            !test & !unknown,
-            start & (c.kind == 5),
-            false,
-            word == 1,
-            false,
-            unknown,
-        ),
-        word: left,
+        row: marks.row(),
+        word: word - 1,
     }
 }
 

@@ -2,7 +2,7 @@
 -- one row and one word. Assumes nothing.
 use Prim.Native.Nat.{ℕ, zero, suc, ◌+◌, ◌≤◌, ◌<◌}
 use mathlib.Core.Path.{◌≡◌, refl, sym, ap, subst, subst⁻¹, ◌∙◌}
-use mathlib.Core.Bool.{Bool, true, false}
+use mathlib.Core.Bool.{true, false}
 use mathlib.Core.List.{List}
 use mathlib.Core.Logic.{⊎_elim}
 use native.Mathlib.Nat.{le_refl, le_step, eq-or-lt_of_le, le_of_suc-le-suc}
@@ -39,7 +39,7 @@ kept-steps words at kept k h = rw (le-ltb k at h)
 abbrev pub reached : ℕ → ℕ → ℕ → Reached
 reached k word kept = record { at = k; word = word; kept = kept }
 
-module _ (c : Config) (trace rows₀ words₀ : List ℕ) (s : Stretch) (r : Runnable c trace rows₀ words₀ s) where
+module _ {c : Config} {trace rows₀ words₀ : List ℕ} {s : Stretch} (r : Runnable c trace rows₀ words₀ s) where
   abbrev frame : ℕ → Frame
   frame k = frame_at trace (s.from + k)
 
@@ -56,15 +56,15 @@ module _ (c : Config) (trace rows₀ words₀ : List ℕ) (s : Stretch) (r : Run
     going_on = λ u k low h. absurd (omega arith);
   }
 
-  module _ (rows words : List ℕ) (k word kept : ℕ) (run : Running c trace rows₀ words₀ s rows words (reached k word kept)) (here : k < s.to) where
+  module _ {rows words : List ℕ} {k word kept : ℕ} (run : Running c trace rows₀ words₀ s rows words (reached k word kept)) (here : k < s.to) where
     -- the cycle is one of the trace
     pub in_trace : s.from + k < frames trace
     in_trace = omega (arith, r.in_trace)
 
-    pub running_more : (s.stops ≡ true → word ≡ kept → ⊥) → (row next : ℕ) → Steps c word (frame k) row next
+    pub running_more : (s.stops ≡ true → word ≡ kept → ⊥) → {row next : ℕ} → Steps c word (frame k) row next
         → Running c trace rows₀ words₀ s (set rows k row) (set words k next) (reached (suc k) next (get_or words k 0))
     unfolding stretch_word stretch_row
-    running_more differs row next step = record {
+    running_more differs {row} {next} step = record {
       low = le_step run.low;
       high = here;
       word_is = next_is;
@@ -85,46 +85,20 @@ module _ (c : Config) (trace rows₀ words₀ : List ℕ) (s : Stretch) (r : Run
         here-differs : s.stops ≡ true → (u : ℕ) → u ≡ k → stretch_word c trace s u ≡ kept_from words₀ s.at s.kept u → ⊥
         here-differs on u e q = differs on (run.word_is ∙ (rw e at q) ∙ sym run.kept_is)
 
--- ---- a stretch of which it is known whether it stops
-
-abbrev pub settled : Stretch → Bool → Stretch
-settled s b = record { from = s.from; at = s.at; to = s.to; stops = b; word = s.word; kept = s.kept }
-
-pub settled-runnable : {c : Config} {trace rows words : List ℕ} {s : Stretch} (b : Bool) → Runnable c trace rows words s
-    → Runnable c trace rows words (settled s b)
-settled-runnable b r = record {
-  good = r.good;
-  possible_word = r.possible_word;
-  low = r.low;
-  rows_hold = r.rows_hold;
-  words_hold = r.words_hold;
-  in_trace = r.in_trace;
-  short = r.short;
-}
-
-pub settled-ran : (c : Config) (trace rows words : List ℕ) (s : Stretch) (b : Bool) (rows' words' : List ℕ) (r : Reached) → s.stops ≡ b
-    → Ran c trace rows words (settled s b) rows' words' r → Ran c trace rows words s rows' words' r
-settled-ran c trace rows words s b rows' words' r e ran = subst⁻¹ (λ (x : Bool). Ran c trace rows words (settled s x) rows' words' r) e ran
-
 -- ---- a run that does not stop: the kept word is not looked at on the way
 
-module _ (c : Config) (trace rows₀ words₀ : List ℕ) (s : Stretch) (r : Runnable c trace rows₀ words₀ s) (off : s.stops ≡ false) where
+module _ {c : Config} {trace rows₀ words₀ : List ℕ} {s : Stretch} (r : Runnable c trace rows₀ words₀ s) where
   abbrev pub Filling : List ℕ → List ℕ → ℕ → ℕ → Type 0
   Filling rows words k word = Running c trace rows₀ words₀ s rows words (reached k word (kept_from words₀ s.at s.kept k))
 
   pub filling-none : Filling rows₀ words₀ s.at s.word
-  filling-none = rw (kept-enters words₀ s.at s.kept s.at (le_refl s.at)) (running_none c trace rows₀ words₀ s r)
+  filling-none = rw (kept-enters words₀ s.at s.kept s.at (le_refl s.at)) (running_none r)
 
-  pub filling-more : (rows words : List ℕ) (k word : ℕ) → Filling rows words k word → k < s.to → (row next : ℕ)
+  pub filling-more : s.stops ≡ false → {rows words : List ℕ} {k word : ℕ} → Filling rows words k word → k < s.to → {row next : ℕ}
       → Steps c word (frame_at trace (s.from + k)) row next → Filling (set rows k row) (set words k next) (suc k) next
-  filling-more rows words k word run here row next step =
-      let more =
-      running_more c trace rows₀ words₀ s r rows words k word (kept_from words₀ s.at s.kept k) run here (λ on _. of-false off (of-true on)) row next step in
+  filling-more off {rows} {words} {k} {word} run here {row} {next} step =
+      let more = running_more r run here (λ on _. of-false off (of-true on)) step in
       subst (λ (x : ℕ). Running c trace rows₀ words₀ s (set rows k row) (set words k next) (reached (suc k) next x)) more.kept_is more
-
-  pub filled : (rows words : List ℕ) (word kept : ℕ) → Filling rows words s.to word → kept ≡ kept_from words₀ s.at s.kept s.to
-      → Ran c trace rows₀ words₀ s rows words (reached s.to word kept)
-  filled rows words word kept run e = rw e (record { come = run; stopped = λ l. absurd (omega arith) })
 
 -- it comes to the end of its stretch
 pub ran-all : {c : Config} {trace rows words : List ℕ} {s : Stretch} {rows' words' : List ℕ} {r : Reached} → Ran c trace rows words s rows' words' r

@@ -8,7 +8,6 @@ use native.Mathlib.Nat.{le_refl, le_step, eq-or-lt_of_le, le_of_suc-le-suc}
 use native.Mathlib.Omega.{arith}
 use lib.Dec.{T, ltb}
 use lib.ListN.{length, get_or, set}
-use Rattle.bits.proofs.Tests.{of-true, of-false}
 use Rattle.rules.specs.declared.config.Config.{Config}
 use Rattle.rules.specs.Config.{fatal}
 use Rattle.rules.specs.Rules.{stopped_word}
@@ -21,14 +20,9 @@ use Rattle.trace.specs.Traces.{frame_at}
 use Rattle.trace.specs.Runs.{word_at, Written}
 use Rattle.trace.specs.Stretches.{kept_from, stretch_word, stretch_row, Runnable, Ran, Staying, Stayed}
 use Rattle.trace.proofs.Written.{written_none, written-more}
-use Rattle.trace.proofs.Running.{kept-enters, kept-steps, settled}
+use Rattle.trace.proofs.Running.{kept-enters, kept-steps}
 
--- a stretch of which it is known whether it stops
-pub settled-stayed : {s : Stretch} {b : Bool} {rows words rows' words' : List ℕ} {r : Reached} → s.stops ≡ b → Stayed (settled s b) rows words rows' words' r
-    → Stayed s rows words rows' words' r
-settled-stayed {s} {b} {rows} {words} {rows'} {words'} {r} e h = subst⁻¹ (λ (x : Bool). Stayed (settled s x) rows words rows' words' r) e h
-
-module _ (start to : ℕ) (stops : Bool) (before : ℕ) (rows₀ words₀ : List ℕ) where
+module _ {start to : ℕ} {stops : Bool} {before : ℕ} {rows₀ words₀ : List ℕ} where
   pub staying-none : start ≤ to → Staying start to stops before rows₀ words₀ rows₀ words₀ start before
   staying-none low = record {
     low = le_refl start;
@@ -39,10 +33,10 @@ module _ (start to : ℕ) (stops : Bool) (before : ℕ) (rows₀ words₀ : List
     going_on = λ on k l h. absurd (omega arith);
   }
 
-  pub staying-more : (rows words : List ℕ) (k kept : ℕ) → Staying start to stops before rows₀ words₀ rows words k kept → k < to → to ≤ length rows₀
+  pub staying-more : {rows words : List ℕ} {k kept : ℕ} → Staying start to stops before rows₀ words₀ rows words k kept → k < to → to ≤ length rows₀
       → to ≤ length words₀ → (stops ≡ true → kept ≡ stopped_word → ⊥)
       → Staying start to stops before rows₀ words₀ (set rows k 0) (set words k stopped_word) (suc k) (get_or words k 0)
-  staying-more rows words k kept run here rows_hold words_hold differs = record {
+  staying-more {rows} {words} {k} {kept} run here rows_hold words_hold differs = record {
     low = le_step run.low;
     high = here;
     kept_is = run.words_are.beyond k (le_refl k) ∙ sym (kept-steps words₀ start before k run.low);
@@ -54,23 +48,6 @@ module _ (start to : ℕ) (stops : Bool) (before : ℕ) (rows₀ words₀ : List
       here-differs : stops ≡ true → (u : ℕ) → u ≡ k → stopped_word ≡ kept_from words₀ start before u → ⊥
       here-differs on u e q =
           differs on (run.kept_is ∙ sym (rw e at q))
-
--- one that does not stop writes all entries
-pub stayed-all : (s : Stretch) {rows words rows' words' : List ℕ} {kept : ℕ} → s.stops ≡ false → s.at ≤ s.to → kept ≡ kept_from words s.at s.kept s.to
-    → Written (λ k. 0) s.at s.to rows rows' → Written (λ k. stopped_word) s.at s.to words words'
-    → Stayed s rows words rows' words' (record { at = s.to; word = stopped_word; kept = kept })
-stayed-all s off low is cleared stored = record {
-  come = record {
-    low = low;
-    high = le_refl s.to;
-    kept_is = is;
-    rows_are = cleared;
-    words_are = stored;
-    going_on = λ on. absurd (of-false off (of-true on));
-  };
-  word_is = refl;
-  ended = λ b. absurd (omega arith);
-}
 
 -- a fatal checker that has failed stays there
 module _ (c : Config) (e : fatal c ≡ true) (trace : List ℕ) (s : Stretch) (stops : s.word ≡ stopped_word) where

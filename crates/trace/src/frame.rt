@@ -12,15 +12,12 @@ pub fn frames_in(words: usize) -> usize
     words / FRAME_WORDS
 }
 
-// The frame of cycle t, which the trace has. The loop's bounds are constants, so that the compiler leaves no loop.
+// The frame of cycle t, which the trace has.
 pub fn frame_at(trace: &[u32], t: usize) -> Frame
     requires { t < frames trace.now }
     ensures { result ≡ frame_at trace.now t }
 {
     let first = FRAME_WORDS * t;
-    let mut samples = [0u32; FRAME_WORDS];
-    for i in 0..FRAME_WORDS {
-        samples[i] = trace[first + i];
-    }
-    Frame { samples }
+    let samples: &[u32; FRAME_WORDS] = trace[first..first + FRAME_WORDS].as_array().unwrap();
+    Frame { samples: *samples }
 }

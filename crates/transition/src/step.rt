@@ -33,14 +33,11 @@ pub fn values_in(c: Config, frame: Frame) -> Values
     requires { Good c }
     ensures { Holds c frame result }
 {
-    let p = c.p;
-    let q = c.q;
-    let r = c.r;
     Values {
         up: out_of_reset(frame),
-        test: p.value(frame.samples[1]),
-        start_state: q.value(frame.samples[2]),
-        next_state: r.value(frame.samples[3]),
+        test: c.p.value(frame.samples[1]),
+        start_state: c.q.value(frame.samples[2]),
+        next_state: c.r.value(frame.samples[3]),
     }
 }
 
@@ -49,14 +46,11 @@ fn descending_in(c: Config, frame: Frame) -> Values
     requires { (Good c) × (Descends c) }
     ensures { Holds c frame result }
 {
-    let p = c.p;
-    let q = c.q;
-    let r = c.r;
     Values {
         up: out_of_reset(frame),
-        test: p.descending_value(frame.samples[1]),
-        start_state: q.descending_value(frame.samples[2]),
-        next_state: r.descending_value(frame.samples[3]),
+        test: c.p.descending_value(frame.samples[1]),
+        start_state: c.q.descending_value(frame.samples[2]),
+        next_state: c.r.descending_value(frame.samples[3]),
     }
 }
 
@@ -75,13 +69,10 @@ pub fn known_in(c: Config, frame: Frame) -> Known
             next_state: true,
         };
     }
-    let p = c.p;
-    let q = c.q;
-    let r = c.r;
     Known {
-        test: !p.has_one(p_unknown),
-        start_state: !q.has_one(q_unknown),
-        next_state: !r.has_one(r_unknown),
+        test: !c.p.has_one(p_unknown),
+        start_state: !c.q.has_one(q_unknown),
+        next_state: !c.r.has_one(r_unknown),
     }
 }
 
@@ -162,8 +153,5 @@ pub fn transition_cycle(c: Config, word: u64, frame: Frame) -> Outcome
 pub fn all_descend(c: Config) -> bool
     ensures { result ≡ true → Descends c }
 {
-    let p = c.p;
-    let q = c.q;
-    let r = c.r;
-    p.descends() & (q.descends() & r.descends())
+    c.p.descends() & (c.q.descends() & c.r.descends())
 }

@@ -36,10 +36,8 @@ fn put_marks(row: u32, before: u32, checker: u32, out: &mut [u8], at: usize) -> 
     ensures { Put (marks_text row before checker) out.old at out.new result }
 {
     let mut next = at;
-    let mut i = 0;
-    while i < 6 {
+    for i in 0..6 {
         next = put_mark(row, before, checker, i, out, next);
-        i += 1;
     }
     next
 }

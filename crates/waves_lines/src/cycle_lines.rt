@@ -44,11 +44,9 @@ pub fn put_cycle(
     ensures { Put (text (cycle_lines checkers cycles rows.now t)) out.old at out.new result }
 {
     let mut next = put_stamp(2 * t as u32, b"\n0clk\n", out, at);
-    let mut k = 0;
-    while k < checkers {
+    for k in 0..checkers {
         let place = k * cycles + t;
         next = put_checker(rows[place], row_before(rows, place, t), k as u32, out, next);
-        k += 1;
     }
     put_stamp(2 * t as u32 + 1, b"\n1clk\n", out, next)
 }

@@ -32,10 +32,8 @@ pub fn put_header(checkers: usize, out: &mut [u8], at: usize) -> usize
         at,
     );
     let wires = 6 * checkers as u32;
-    let mut j = 0;
-    while j < wires {
+    for j in 0..wires {
         next = put_wire(j, out, next);
-        j += 1;
     }
     put_text(b"$upscope $end\n$enddefinitions $end\n", out, next)
 }

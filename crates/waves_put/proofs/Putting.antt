@@ -1,10 +1,11 @@
 -- Bytes put behind bytes are put as one text; and a text that is put part by part: what is put, with what is left of it, is the whole. Assumes nothing.
-use Prim.Native.Nat.{ℕ, ◌+◌, ◌≤◌}
+use Prim.Native.Nat.{ℕ, ◌+◌, ◌-◌, ◌≤◌}
 use mathlib.Core.Path.{◌≡◌, refl, sym, ap, ◌∙◌}
 use mathlib.Core.List.{List, [], ◌∷◌, ◌++◌, append-nil, append_assoc}
 use native.Mathlib.Omega.{arith}
-use lib.ListN.{length, set, length-append}
-use lib.Seq.{sets, length-sets}
+use lib.ListN.{length, set, take, drop, length-append}
+use lib.Seq.{sets, length-sets, drop-drop}
+use Rattle.std.proofs.lemmas.List.Edits.{sets-eq}
 use Rattle.bits.proofs.Stores.{sets-append}
 use Rattle.waves_put.specs.Put.{Put}
 
@@ -23,6 +24,16 @@ put-more {text} {more} {out} {at = at} {next} p q = record {
   out_is =
       q.out_is ∙ ap (λ (l : List ℕ). sets l next more) p.out_is ∙ ap (λ (i : ℕ). sets (sets out at text) i more) p.next_is ∙ sym (sets-append out at text more);
 }
+
+-- a text in the place of as many bytes
+pub put-middle : (text out : List ℕ) (at : ℕ) → at + length text ≤ length out
+    → Put text out at (take at out ++ (text ++ drop (at + length text - at) (drop at out))) (at + length text)
+put-middle text out at h =
+    let k : at + length text - at ≡ length text = omega arith in
+    record {
+      next_is = refl;
+      out_is = rw (k, drop-drop) (sym (append_assoc (take at out) text (drop (at + length text) out)) ∙ sym (sets-eq text out at h));
+    }
 
 -- of a text that is to stand from `at` on, `left` is still to be put
 pub record Putting (text out : List ℕ) (at : ℕ) (left out' : List ℕ) (next : ℕ) : Type 0 where

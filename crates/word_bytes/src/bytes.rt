@@ -1,5 +1,5 @@
 // A 64-bit word in eight lent bytes, least significant byte first.
-ghost use Rattle.std.specs.Prelude.{◌≡◌, ◌<◌, length};
+ghost use Rattle.std.specs.Prelude.{◌≡◌, length};
 ghost use Rattle.word_bytes.specs.Bytes.{word_of, bytes_of};
 
 // The word that the bytes hold.
@@ -7,13 +7,9 @@ pub fn load(bytes: &[u8]) -> u64
     requires { length bytes.now ≡ 8 }
     ensures { result ≡ word_of bytes.now }
 {
-    let mut word: u64 = 0;
-    let mut i: usize = 8;
-    while 0 < i {
-        i -= 1;
-        word = word * 256 + wide(bytes[i]);
-    }
-    word
+    let mut held = [0u8; 8];
+    held.copy_from_slice(bytes);
+    u64::from_le_bytes(held)
 }
 
 // Writes the word into the bytes.
@@ -21,16 +17,5 @@ pub fn store(bytes: &mut [u8], word: u64)
     requires { length bytes.old ≡ 8 }
     ensures { bytes.new ≡ bytes_of 8 word }
 {
-    let mut rest = word;
-    for i in 0..8 {
-        bytes[i] = (rest % 256) as u8;
-        rest /= 256;
-    }
-}
-
-fn wide(b: u8) -> u64
-    ensures value { result ≡ b }
-    ensures upper_bound { result < 256 }
-{
-    b as u64
+    bytes.copy_from_slice(&word.to_le_bytes());
 }

@@ -1,7 +1,7 @@
--- `bench::table::test_all`: the answer is that of the first k checkers. Assumes nothing.
-use mathlib.Core.Path.{◌≡◌}
-use Rattle.bench.proofs.Tested.{tested_to}
+-- `bench::table::test_all`: none of the first k checkers is bad. Assumes nothing.
+use Rattle.std.proofs.Common.{ℕ, ◌≡◌, ◌<◌, length}
+use Rattle.bench.specs.Bench.{refusal_at}
 use Rattle.bench.proofs.table.test_all.Given as goal
 
 abbrev pub invariant-loop-k : goal.invariant-loop-k
-invariant-loop-k l = l.answer ≡ tested_to l.table l.words l.k
+invariant-loop-k l = (j : ℕ) → j < length l.yielded → refusal_at l.table l.words j ≡ 0

@@ -1,6 +1,5 @@
 -- `blocks::write::write_block` meets its contract. The loop's invariant: the entries of the first i of the marked rows are stored from `at` on. These rows have
--- all entries of the block. The measure is what is left of them. Assumes nothing.
-use Prim.Native.Nat.{◌-◌, zero-le}
+-- all entries of the block. Assumes nothing.
 use mathlib.Core.Path.{◌≡◌, subst}
 use mathlib.Core.List.{List}
 use native.Mathlib.Omega.{arith}
@@ -8,45 +7,41 @@ use Rattle.trace.specs.Traces.{frame_at}
 use Rattle.listed.specs.Lists.{Entry}
 use Rattle.entries.specs.Entries.{Stored}
 use Rattle.entries.proofs.Stored.{stored-length}
-use Rattle.blocks.proofs.Cycles.{stored-first, picked-in, picked-here, stored_next, row_fits, block-entries}
+use Rattle.blocks.proofs.Cycles.{stored-first, all-picked, picked-at, picked-in, picked-here, stored_next, row_fits, block-entries}
 use Rattle.blocks.proofs.write.write_block.Goals as goal
 
-pub loop-i-init : goal.loop-i-init
-loop-i-init c =
+pub loop-k-init : goal.loop-k-init
+loop-k-init c =
     let a = c.args in
-    (zero-le, stored-first a.c (frame_at a.trace.now) a.t a.picked.now a.list.now a.at)
+    stored-first a.c (frame_at a.trace.now) a.t a.buffers.now.picked a.list.now a.at
 
 pub picked_cycle-cycle-requires : goal.picked_cycle-cycle-requires
 picked_cycle-cycle-requires c =
-    picked-in c.requires.0 c.requires.1 c.loop-i.i c.loop-i-test.true
+    let w = picked-at c.requires.0 c.requires.1 c.loop-k.k-index c.loop-k-test.true in
+    let h = picked-in c.requires.0 c.requires.1 c.loop-k.k-index w.0 in
+    (rw w.1 at h.1, rw w.1 at h.2, h.3)
 
 pub write_entries-next-requires : goal.write_entries-next-requires
 write_entries-next-requires c =
-    let at = c.loop-i in
+    let at = c.loop-k in
     let cycle = c.picked_cycle-cycle in
-    let h = picked-here c.requires.0 c.requires.1 at.i c.loop-i-test.true cycle.result cycle.ensures in
-    (h.0.ready, h.1, row_fits c.requires.0 c.requires.1 at.i c.loop-i-test.true h.0 at.invariant.1 c.requires.2)
+    let w = picked-at c.requires.0 c.requires.1 at.k-index c.loop-k-test.true in
+    let h = picked-here c.requires.0 c.requires.1 at.k-index w.0 cycle.result (rw w.1 cycle.ensures) in
+    (h.0.ready, h.1, row_fits c.requires.0 c.requires.1 at.k-index w.0 h.0 at.invariant c.requires.2)
 
-pub overflow_step-i : goal.overflow_step-i
-overflow_step-i c = omega (arith, c.requires.1.picks.few, c.requires.1.short)
-
-pub loop-i-smaller : goal.loop-i-smaller
-loop-i-smaller c = omega (arith, c.loop-i-test.true)
-
-pub loop-i-preserved : goal.loop-i-preserved
-loop-i-preserved c =
-    let at = c.loop-i in
+pub loop-k-preserved : goal.loop-k-preserved
+loop-k-preserved c =
+    let at = c.loop-k in
     let cycle = c.picked_cycle-cycle in
-    let h = picked-here c.requires.0 c.requires.1 at.i c.loop-i-test.true cycle.result cycle.ensures in (
-      omega (arith, c.loop-i-test.true),
-      stored_next c.requires.0 c.requires.1 at.i c.loop-i-test.true h.0 at.invariant.1 c.write_entries-next.ensures,
-    )
+    let w = picked-at c.requires.0 c.requires.1 at.k-index c.loop-k-test.true in
+    let h = picked-here c.requires.0 c.requires.1 at.k-index w.0 cycle.result (rw w.1 cycle.ensures) in
+    stored_next c.requires.0 c.requires.1 at.k-index w.0 h.0 at.invariant c.write_entries-next.ensures
 
 pub shape_of-list : goal.shape_of-list
-shape_of-list c = stored-length c.loop-i.invariant.1
+shape_of-list c = stored-length c.loop-k.invariant
 
 pub returns : goal.returns
 returns c =
-    let at = c.loop-i in
-    let all : at.i ≡ c.args.block.marked = omega (arith, c.loop-i-test.false, at.invariant.0) in
-    subst (λ (es : List Entry). Stored es c.args.list.now c.args.at at.list at.next) (block-entries c.requires.0 c.requires.1) (rw all at at.invariant.1)
+    let at = c.loop-k in
+    let all : at.k-index ≡ c.args.block.marked = omega (arith, c.loop-k-test.false, all-picked c.requires.0 c.requires.1) in
+    subst (λ (es : List Entry). Stored es c.args.list.now c.args.at at.list at.next) (block-entries c.requires.0 c.requires.1) (rw all at at.invariant)

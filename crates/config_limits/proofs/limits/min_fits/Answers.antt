@@ -1,13 +1,32 @@
--- `config_limits::limits::min_fits` meets its contract: what is at most 0 is 0. Assumes nothing.
-use mathlib.Core.Path.{refl}
+-- `config_limits::limits::min_fits` meets its contract: the kinds up to 6 are those of the families that do not use min. Assumes nothing.
+use Prim.Native.Nat.{ℕ, ◌≤◌, ◌<◌}
+use mathlib.Core.Path.{◌≡◌, refl}
+use mathlib.Core.Logic.{◌⊎◌, inl, inr}
+use native.Mathlib.Omega.{arith}
 use borrow.Author.Tests.{le-leb, lt-leb}
-use Rattle.rules.specs.Config.{min_fits}
-use Rattle.rules.proofs.Good.{at-most-0}
+use Rattle.rules.specs.declared.family.Family as code
+use Rattle.rules.specs.declared.family.Family.TheVariants.{Sequence, Time, Transition, Value, Stability}
+use Rattle.rules.specs.Config.{family, min_fits}
+use Rattle.rules.specs.Config.Family.{sequence, time, transition, value, stability}
+use Rattle.rules.specs.Families.{named}
+use Rattle.rules.proofs.Families.{kinds}
 use Rattle.config_limits.proofs.limits.min_fits.Goals as goal
-use Rattle.config_limits.proofs.limits.min_fits.Goals.{then-c-le6, else-c-le6}
 
-pub returns : goal.returns
+low : (f : code.Family) (k : ℕ) → (f ≡ Sequence) ⊎ ((f ≡ Time) ⊎ (f ≡ Transition)) → named f ≡ family k → k ≤ 6
+low f k (inl i) e = omega (arith, kinds k sequence (rw i at e))
+low f k (inr (inl i)) e = omega (arith, kinds k time (rw i at e))
+low f k (inr (inr i)) e = omega (arith, kinds k transition (rw i at e))
+
+high : (f : code.Family) (k : ℕ) → (f ≡ Value) ⊎ (f ≡ Stability) → named f ≡ family k → 6 < k
+high f k (inl i) e = omega (arith, kinds k value (rw i at e))
+high f k (inr i) e = omega (arith, kinds k stability (rw i at e))
+
+pub returns-in-Sequence : goal.returns-in-Sequence
 unfolding min_fits
-returns c =
-    let a = c.args.c in
-    elim c.if-c-le6.branch [ then-c-le6 w ↦ (let h = w.if-c-le6 in let g = w.most-is in rw (w.most-is, le-leb a.kind 6 w.if-c-le6.true) (at-most-0 a.min)) | else-c-le6 w ↦ rw (w.most-is, lt-leb a.kind 6 w.if-c-le6.false) refl ]
+returns-in-Sequence c e =
+    let k = c.args.c.kind in rw (le-leb k 6 (low c.args.f k c.in-Sequence.is e)) refl
+
+pub returns-in-Value : goal.returns-in-Value
+unfolding min_fits
+returns-in-Value c e =
+    let k = c.args.c.kind in rw (lt-leb k 6 (high c.args.f k c.in-Value.is e)) refl

@@ -1,22 +1,36 @@
--- `config_ports::ports::value_fits` meets its contract: what is at most 0 is 0, and at most 2^width − 1 is below 2^width. Assumes nothing.
+-- `config_ports::ports::value_fits` meets its contract: kind 7 alone is of the family that has a value, and at most 2^width − 1 is below 2^width. Assumes nothing.
+use Prim.Native.Nat.{ℕ}
+use mathlib.Core.Path.{◌≡◌, refl}
+use mathlib.Core.Logic.{◌⊎◌, inl, inr}
 use native.Mathlib.Omega.{arith}
 use borrow.Author.Tests.{eq-eqb, ne_eqb}
 use Rattle.bits.proofs.Bits.{le-ones-lt}
 use Rattle.bus.specs.Range.{width}
 use Rattle.bus.proofs.Ranges.{width-le}
-use Rattle.rules.specs.Config.{value_fits}
-use Rattle.rules.proofs.Good.{at-most-0}
+use Rattle.rules.specs.declared.family.Family as code
+use Rattle.rules.specs.declared.family.Family.TheVariants.{Sequence, Time, Transition, Stability}
+use Rattle.rules.specs.Config.{family, value_fits}
+use Rattle.rules.specs.Config.Family.{sequence, time, transition, value, stability}
+use Rattle.rules.specs.Families.{named}
+use Rattle.rules.proofs.Families.{kinds}
 use Rattle.config_ports.proofs.ports.value_fits.Goals as goal
-use Rattle.config_ports.proofs.ports.value_fits.Goals.{then-c-eq7, else-c-eq7}
 
-pub low_ones-most-requires : goal.low_ones-most-requires
-low_ones-most-requires c = omega (arith, c.width.ensures, width-le c.args.c.p c.requires)
+other : (f : code.Family) (k : ℕ) → (f ≡ Sequence) ⊎ ((f ≡ Time) ⊎ ((f ≡ Transition) ⊎ (f ≡ Stability))) → named f ≡ family k → k ≡ 7 → ⊥
+other f k (inl i) e s = omega (arith, kinds k sequence (rw i at e))
+other f k (inr (inl i)) e s = omega (arith, kinds k time (rw i at e))
+other f k (inr (inr (inl i))) e s = omega (arith, kinds k transition (rw i at e))
+other f k (inr (inr (inr i))) e s = omega (arith, kinds k stability (rw i at e))
 
-pub returns : goal.returns
+pub low_ones-requires : goal.low_ones-requires
+low_ones-requires c = omega (arith, c.width.ensures, width-le c.args.c.p c.requires)
+
+pub returns-in-Value : goal.returns-in-Value
 unfolding value_fits
-returns c =
+returns-in-Value c e =
     let a = c.args.c in
-    elim c.if-c-eq7.branch [
-      | then-c-eq7 w ↦ rw (w.most-is, w.low_ones-most.ensures, w.width.ensures, eq-eqb a.kind 7 w.if-c-eq7.true) (le-ones-lt (width a.p) a.value)
-      | else-c-eq7 w ↦ rw (w.most-is, ne_eqb a.kind 7 w.if-c-eq7.false) (at-most-0 a.value)
-    ]
+    rw (c.low_ones.ensures, c.width.ensures, eq-eqb a.kind 7 (kinds a.kind value (rw c.in-Value.is at e))) (le-ones-lt (width a.p) a.value)
+
+pub returns-in-Sequence : goal.returns-in-Sequence
+unfolding value_fits
+returns-in-Sequence c e =
+    let k = c.args.c.kind in rw (ne_eqb k 7 (other c.args.f k c.in-Sequence.is e)) refl

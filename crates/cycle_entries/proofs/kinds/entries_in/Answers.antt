@@ -1,29 +1,29 @@
 -- `cycle_entries::kinds::entries_in` meets its contract: a sequence has as many entries as the word of failing attempts has ones; another kind has one for each of
 -- the two marks. Assumes nothing.
+use mathlib.Core.Path.{sym}
+use mathlib.Core.Logic.{⊎_elim}
 use native.Mathlib.Omega.{arith}
-use Rattle.rules.proofs.Good.{family-sequence}
-use Rattle.cycle_entries.proofs.StepEntries.{attempts-length, others-count}
+use Rattle.rules.proofs.Good.{kind-low}
+use Rattle.cycle_entries.proofs.StepEntries.{attempts-length, window-counts, transition-counts, value-counts, stability-counts}
 use Rattle.cycle_entries.proofs.kinds.entries_in.Goals as goal
 
-pub lost_attempts-requires : goal.lost_attempts-requires
-lost_attempts-requires c =
-    (c.requires.0.good, family-sequence c.args.c.kind (omega arith), c.requires.0.possible_word)
+pub family-requires : goal.family-requires
+family-requires c = kind-low c.args.c c.requires.0.good
 
-pub overflow_cast-result : goal.overflow_cast-result
-overflow_cast-result c =
+pub returns-in-Sequence : goal.returns-in-Sequence
+returns-in-Sequence c =
     let a = c.args in
-    let few =
-    attempts-length a.c a.word a.frame a.row a.t c.requires.0 (family-sequence a.c.kind (omega arith)) c.lost_attempts.result
-    c.lost_attempts.ensures c.requires.1 in
-    omega (arith, few.1)
-
-pub returns-in-0-to-2 : goal.returns-in-0-to-2
-returns-in-0-to-2 c =
-    let a = c.args in
-    attempts-length a.c a.word a.frame a.row a.t c.requires.0 (family-sequence a.c.kind (omega arith)) c.lost_attempts.result
+    attempts-length a.c a.word a.frame a.row a.t c.requires.0 (sym c.in-Sequence.ensures) c.lost_attempts.result
     c.lost_attempts.ensures c.requires.1
 
-pub returns-in-3-to-255 : goal.returns-in-3-to-255
-returns-in-3-to-255 c =
+pub returns-in-Time : goal.returns-in-Time
+returns-in-Time c =
     let a = c.args in
-    (others-count a.c a.word a.frame a.row a.t c.requires.0 (omega arith) c.requires.1, omega arith)
+    let fam = c.family.ensures in
+    let counts =
+    ⊎_elim (λ i. window-counts a.c a.word a.frame a.row a.t c.requires.0 (sym (rw i at fam)) c.requires.1)
+    (⊎_elim (λ i. transition-counts a.c a.word a.frame a.row a.t c.requires.0 (sym (rw i at fam)) c.requires.1)
+    (⊎_elim (λ i. value-counts a.c a.word a.frame a.row a.t c.requires.0 (sym (rw i at fam)) c.requires.1)
+    (λ i. stability-counts a.c a.word a.frame a.row a.t c.requires.0 (sym (rw i at fam)) c.requires.1)))
+    c.in-Time.is in
+    (counts, omega arith)

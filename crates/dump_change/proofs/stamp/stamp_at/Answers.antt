@@ -1,16 +1,15 @@
-use Rattle.dump_change.specs.Change.{stamp_wave, stamp_store, stamp_frames}
-use mathlib.Core.Path.{sym}
-use borrow.Author.Tests.{eq-eqb, ne_eqb}
+use Rattle.dump_change.specs.Change.{order_number, stamp_wave, stamp_store, stamp_frames}
+use mathlib.Core.Path.{◌∙◌, sym, ap}
 use Rattle.dump_change.proofs.stamp.stamp_at.Goals as goal
 
-pub returns-then-order-eq0 : goal.returns-then-order-eq0
+pub returns-in-Next : goal.returns-in-Next
 unfolding stamp_wave stamp_store stamp_frames
-returns-then-order-eq0 c = (simp (sym c.next_stamp.ensures.0, eq-eqb _ _ c.if-order-eq0.true, sym c.stamp_order-order.ensures), simp (c.next_stamp.ensures.1, eq-eqb _ _ c.if-order-eq0.true, sym c.stamp_order-order.ensures), simp (c.next_stamp.ensures.2, eq-eqb _ _ c.if-order-eq0.true, sym c.stamp_order-order.ensures))
+returns-in-Next c = let e = sym c.stamp_order.ensures ∙ ap order_number c.in-Next.is in (simp (e, sym c.next_stamp.ensures.0), simp (e, c.next_stamp.ensures.1), simp (e, c.next_stamp.ensures.2))
 
-pub returns-then-order-eq1 : goal.returns-then-order-eq1
+pub returns-in-Equal : goal.returns-in-Equal
 unfolding stamp_wave stamp_store stamp_frames
-returns-then-order-eq1 c = (simp (eq-eqb _ _ c.if-order-eq1.true, ne_eqb _ _ c.if-order-eq0.false, sym c.stamp_order-order.ensures), simp (ne_eqb _ _ c.if-order-eq0.false, sym c.stamp_order-order.ensures), simp (ne_eqb _ _ c.if-order-eq0.false, sym c.stamp_order-order.ensures))
+returns-in-Equal c = let e = sym c.stamp_order.ensures ∙ ap order_number c.in-Equal.is in (simp e, simp e, simp e)
 
-pub returns : goal.returns
+pub returns-in-Back : goal.returns-in-Back
 unfolding stamp_wave stamp_store stamp_frames
-returns c = (simp (c.wave_at.ensures, ne_eqb _ _ c.if-order-eq1.false, ne_eqb _ _ c.if-order-eq0.false, sym c.stamp_order-order.ensures), simp (ne_eqb _ _ c.if-order-eq0.false, sym c.stamp_order-order.ensures), simp (ne_eqb _ _ c.if-order-eq0.false, sym c.stamp_order-order.ensures))
+returns-in-Back c = let e = sym c.stamp_order.ensures ∙ ap order_number c.in-Back.is in (simp (e, c.wave_at.ensures), simp e, simp e)

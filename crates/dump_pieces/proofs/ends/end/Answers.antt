@@ -6,13 +6,13 @@ pub returns-then-state-ne0 : goal.returns-then-state-ne0
 unfolding end_of
 returns-then-state-ne0 c = laws.answers-again c.args.state c.args.frames.now _ _ c.if-state-ne0.true c.give_again.ensures
 
-pub returns-then-refusal-ne0 : goal.returns-then-refusal-ne0
+pub returns-in-Err : goal.returns-in-Err
 unfolding end_of
-returns-then-refusal-ne0 c = laws.answers-refused c.args.state c.args.frames.now _ _ c.if-state-ne0.false _ c.length_refusal-refusal.ensures c.if-refusal-ne0.true c.refuse.ensures
+returns-in-Err c = laws.answers-refused c.args.state c.args.frames.now _ _ c.if-state-ne0.false _ c.length_refusal.ensures _ c.in-Err.is c.refuse.ensures
 
 pub take_end-requires : goal.take_end-requires
-take_end-requires c = laws.fit-most _ _ _ c.length_refusal-refusal.ensures c.if-refusal-ne0.false
+take_end-requires c = laws.fit-most _ _ _ _ c.length_refusal.ensures c.in-Ok.is
 
-pub returns : goal.returns
+pub returns-in-Ok : goal.returns-in-Ok
 unfolding end_of
-returns c = laws.answers-read c.args.state c.args.frames.now _ _ c.if-state-ne0.false _ c.length_refusal-refusal.ensures c.if-refusal-ne0.false _ c.take_end.ensures.0 c.take_end.ensures.1
+returns-in-Ok c = laws.answers-read c.args.state c.args.frames.now _ _ c.if-state-ne0.false _ c.length_refusal.ensures _ c.in-Ok.is _ c.take_end.ensures.0 c.take_end.ensures.1

@@ -7,4 +7,4 @@ pub overflow_add-to : goal.overflow_add-to
 overflow_add-to c = omega (arith, c.if-to-bytes.false, c.well_formed)
 
 pub returns-then-is_blank : goal.returns-then-is_blank
-returns-then-is_blank c = runs.number-whole _ _ c.requires.4 _ _ _ c.if-to-bytes.false c.number_run-run.ensures.0 (sym c.is_blank.ensures ∙ c.if-is_blank.true) _ _ _ _ _ _ c.past_blank.ensures _ c.requires.5 (c.number_run-run.ensures.2 _) c.change_word-next.ensures.0 c.change_word-next.ensures.1 c.change_word-next.ensures.2
+returns-then-is_blank c = runs.number-whole _ _ c.requires.4 _ _ _ c.if-to-bytes.false c.gather_run-run.ensures.0 (sym c.is_blank.ensures ∙ c.if-is_blank.true) _ _ _ _ _ _ (runs.behind-past c.args.c _ _ _ _ _ c.behind_word.ensures c.past_blank.ensures) _ c.requires.5 (c.gather_run-run.ensures.2 _) c.change_word-wave.ensures.0 c.change_word-wave.ensures.1 c.change_word-wave.ensures.2

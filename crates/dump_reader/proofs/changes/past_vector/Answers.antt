@@ -10,7 +10,7 @@ pub overflow_add-to : goal.overflow_add-to
 overflow_add-to c = omega (arith, c.if-to-bytes.false, c.well_formed)
 
 pub returns-then-is_blank : goal.returns-then-is_blank
-returns-then-is_blank c = runs.vector-whole _ _ c.requires.4 _ _ _ c.if-to-bytes.false c.vector_run-run.ensures.0 (sym c.is_blank.ensures ∙ c.if-is_blank.true) _ _ _ _ _ _ c.past_blank.ensures _ _ c.requires.5 c.vector_run-run.ensures.3 c.change_word-next.ensures.0 c.change_word-next.ensures.1 c.change_word-next.ensures.2
+returns-then-is_blank c = runs.vector-whole _ _ c.requires.4 _ _ _ c.if-to-bytes.false c.vector_run-run.ensures.0 (sym c.is_blank.ensures ∙ c.if-is_blank.true) _ _ _ _ _ _ (runs.behind-past c.args.c _ _ _ _ _ c.behind_word.ensures c.past_blank.ensures) _ _ c.requires.5 c.vector_run-run.ensures.3 c.change_word-wave.ensures.0 c.change_word-wave.ensures.1 c.change_word-wave.ensures.2
 
 pub returns : goal.returns
 returns c = (omega (arith, c.vector_run-run.ensures.0), c.vector_run-run.ensures.1, runs.vector-open _ _ c.requires.4 _ _ _ _ _ c.vector_run-run.result.count c.vector_run-run.result.at c.requires.5 c.vector_run-run.ensures.3)

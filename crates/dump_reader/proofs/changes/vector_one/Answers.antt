@@ -3,8 +3,8 @@ use mathlib.Core.Path.{◌∙◌, sym}
 use native.Mathlib.Omega.{arith}
 use Rattle.dump_reader.proofs.changes.vector_one.Goals as goal
 
-pub returns-then-wave-ne0 : goal.returns-then-wave-ne0
-returns-then-wave-ne0 c = (omega (arith, c.vector_run-run.ensures.0), c.vector_run-run.ensures.1, λ f. runs.vector-open _ _ c.requires.3 _ _ _ _ f c.vector_run-run.result.count c.vector_run-run.result.at c.requires.4 c.vector_run-run.ensures.3)
+pub returns-then-c-ne0 : goal.returns-then-c-ne0
+returns-then-c-ne0 c = (omega (arith, c.vector_run-run.ensures.0), c.vector_run-run.ensures.1, λ f. runs.vector-open _ _ c.requires.3 _ _ _ _ f c.vector_run-run.result.count c.vector_run-run.result.at c.requires.4 c.vector_run-run.ensures.3)
 
 pub returns-then-to-bytes : goal.returns-then-to-bytes
 returns-then-to-bytes c = (omega (arith, c.vector_run-run.ensures.0), c.vector_run-run.ensures.1, λ f. runs.vector-open _ _ c.requires.3 _ _ _ _ f c.vector_run-run.result.count c.vector_run-run.result.at c.requires.4 c.vector_run-run.ensures.3)
@@ -16,7 +16,7 @@ pub returns-then-run-eq0 : goal.returns-then-run-eq0
 returns-then-run-eq0 c = (omega (arith, c.vector_run-run.ensures.0), c.vector_run-run.ensures.1, λ f. runs.vector-open _ _ c.requires.3 _ _ _ _ f c.vector_run-run.result.count c.vector_run-run.result.at c.requires.4 c.vector_run-run.ensures.3)
 
 pub returns-then-is_blank-2 : goal.returns-then-is_blank-2
-returns-then-is_blank-2 c = runs.vector-passed _ _ c.requires.3 _ _ _ _ c.vector_run-run.result.count c.vector_run-run.result.at c.requires.5 c.if-run-eq0.false c.if-to-bytes.false c.vector_run-run.ensures.0 (sym c.is_blank-then-is_blank.ensures ∙ c.if-is_blank-2.true) _ c.requires.4 c.vector_run-run.ensures.3 c.past_blank.ensures
+returns-then-is_blank-2 c = runs.vector-passed _ _ c.requires.3 _ _ _ _ c.vector_run-run.result.count c.vector_run-run.result.at c.requires.5 c.if-run-eq0.false c.if-to-bytes.false c.vector_run-run.ensures.0 (sym c.is_blank-then-is_blank.ensures ∙ c.if-is_blank-2.true) _ c.requires.4 c.vector_run-run.ensures.3 (runs.behind-past c.args.c _ _ _ _ _ c.behind_word.ensures c.past_blank.ensures)
 
 pub returns-then-is_blank : goal.returns-then-is_blank
 returns-then-is_blank c = (omega (arith, c.vector_run-run.ensures.0), c.vector_run-run.ensures.1, λ f. runs.vector-open _ _ c.requires.3 _ _ _ _ f c.vector_run-run.result.count c.vector_run-run.result.at c.requires.4 c.vector_run-run.ensures.3)
@@ -34,7 +34,7 @@ pub shape_of-digits-then-vector_good : goal.shape_of-digits-then-vector_good
 shape_of-digits-then-vector_good c = c.vector_run-run.auto.digits
 
 pub returns-then-vector_good : goal.returns-then-vector_good
-returns-then-vector_good c = runs.vectored-whole _ _ c.requires.3 _ _ _ _ c.vector_run-run.result.count c.vector_run-run.result.at c.text_run-code.result.at c.requires.5 c.if-wave-ne0.false c.if-to-bytes.false c.vector_run-run.ensures.0 (sym c.is_blank-2.ensures ∙ c.if-is_blank-3.true) c.if-from-bytes.false (sym c.is_blank.ensures ∙ c.if-is_blank.false) c.if-end-bytes.false c.text_run-code.ensures.0 (sym c.is_blank-then-is_blank-3.ensures ∙ c.if-is_blank-4.true) _ _ (c.vector_good.ensures.0 c.if-vector_good.true) _ _ _ c.requires.4 c.vector_run-run.ensures.3 c.add_text-first.ensures c.text_run-code.ensures.2 c.past_blank-next.ensures c.past_blank-then-vector_good.ensures
+returns-then-vector_good c = runs.vectored-whole _ _ c.requires.3 _ _ _ _ c.vector_run-run.result.count c.vector_run-run.result.at c.gather_run-code.result.at c.requires.5 c.if-c-ne0.false c.if-to-bytes.false c.vector_run-run.ensures.0 (sym c.is_blank-2.ensures ∙ c.if-is_blank-3.true) c.if-from-bytes.false (sym c.is_blank.ensures ∙ c.if-is_blank.false) c.if-end-bytes.false c.gather_run-code.ensures.0 (sym c.is_blank-then-is_blank-3.ensures ∙ c.if-is_blank-4.true) _ _ (c.vector_good.ensures.0 c.if-vector_good.true) _ _ _ c.requires.4 c.vector_run-run.ensures.3 c.add_text-first.ensures c.gather_run-code.ensures.2 (runs.behind-past c.args.c _ _ _ _ _ c.behind_word-then-vector_good.ensures c.past_blank-next.ensures) (runs.behind-past c.past_blank-next.result _ _ _ _ _ c.behind_word-then-vector_good-2.ensures c.past_blank-then-vector_good.ensures)
 
 pub shape_of-digits-then-is_blank-4 : goal.shape_of-digits-then-is_blank-4
 shape_of-digits-then-is_blank-4 c = c.vector_run-run.auto.digits

@@ -1,7 +1,5 @@
-use Rattle.dump_reader.specs.Machine.{end_declaration, end_last, end_change, step}
 use mathlib.Core.Path.{sym}
 use Rattle.dump_reader.proofs.word_end.end_change.Goals as goal
 
 pub returns : goal.returns
-unfolding end_declaration end_last end_change step
 returns c = (simp (c.behind.ensures, sym c.change_word-wave.ensures.0, c.change_word-wave.ensures.1, c.change_word-wave.ensures.2, sym c.bounded_count-n.ensures.0), simp (c.behind.ensures, sym c.change_word-wave.ensures.0, c.change_word-wave.ensures.1, c.change_word-wave.ensures.2, sym c.bounded_count-n.ensures.0), simp (c.behind.ensures, sym c.change_word-wave.ensures.0, c.change_word-wave.ensures.1, c.change_word-wave.ensures.2, sym c.bounded_count-n.ensures.0))

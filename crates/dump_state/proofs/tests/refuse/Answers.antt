@@ -1,5 +1,5 @@
-use mathlib.Core.Path.{refl}
+use Rattle.dump_state.proofs.Laws as laws
 use Rattle.dump_state.proofs.tests.refuse.Goals as goal
 
 pub returns : goal.returns
-returns c = rw c.refused_with-answer.ensures refl
+returns c = laws.refusal-stands c.args.state _ _ _ c.refused_with-answer.ensures c.stand.ensures

@@ -1,10 +1,7 @@
 use Rattle.dump_values.specs.Values.{good_from}
 use mathlib.Core.Path.{◌≡◌}
-use Prim.Native.Nat.{◌≤◌, ◌-◌}
+use Prim.Native.Nat.{◌-◌}
 use Rattle.dump_values.proofs.table.table_good.Given as goal
 
 abbrev pub invariant-loop-e : goal.invariant-loop-e
-invariant-loop-e l = (l.e ≤ 129) × (good_from l.store l.n 0 129 ≡ good_from l.store l.n l.e (129 - l.e))
-
-abbrev pub decreases-loop-e : goal.decreases-loop-e
-decreases-loop-e l = 129 - l.e
+invariant-loop-e l = good_from l.store l.n 0 129 ≡ good_from l.store l.n l.e (129 - l.e)

@@ -2,18 +2,18 @@ use Rattle.dump_words.specs.Gather.{left_add}
 use borrow.Author.Tests.{eq-eqb, ne_eqb}
 use Rattle.dump_words.proofs.scan.add_left.Goals as goal
 
-pub returns-then-left-eq0 : goal.returns-then-left-eq0
+pub returns-then-s-eq0 : goal.returns-then-s-eq0
 unfolding left_add
-returns-then-left-eq0 c = simp (c.left_digit.ensures, eq-eqb _ _ c.if-left-eq0.true)
+returns-then-s-eq0 c = simp (c.left_digit.ensures, eq-eqb _ _ c.if-s-eq0.true)
 
 pub returns-then-b-eq58 : goal.returns-then-b-eq58
 unfolding left_add
-returns-then-b-eq58 c = simp (eq-eqb _ _ c.if-b-eq58.true, ne_eqb _ _ c.if-left-eq0.false)
+returns-then-b-eq58 c = simp (eq-eqb _ _ c.if-b-eq58.true, ne_eqb _ _ c.if-s-eq0.false)
 
 pub returns-then-b-eq93 : goal.returns-then-b-eq93
 unfolding left_add
-returns-then-b-eq93 c = simp (eq-eqb _ _ c.if-b-eq93.true, ne_eqb _ _ c.if-b-eq58.false, ne_eqb _ _ c.if-left-eq0.false)
+returns-then-b-eq93 c = simp (eq-eqb _ _ c.if-b-eq93.true, ne_eqb _ _ c.if-b-eq58.false, ne_eqb _ _ c.if-s-eq0.false)
 
 pub returns : goal.returns
 unfolding left_add
-returns c = simp (c.left_digit-2.ensures, ne_eqb _ _ c.if-b-eq93.false, ne_eqb _ _ c.if-b-eq58.false, ne_eqb _ _ c.if-left-eq0.false)
+returns c = simp (c.left_digit-2.ensures, ne_eqb _ _ c.if-b-eq93.false, ne_eqb _ _ c.if-b-eq58.false, ne_eqb _ _ c.if-s-eq0.false)

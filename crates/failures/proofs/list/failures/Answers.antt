@@ -1,65 +1,51 @@
 -- `failures::list::failures` meets its contract: each refusal comes before any store, in the order of the numbers, and what is not refused is what `write_all`
 -- takes. Assumes nothing.
-use mathlib.Core.Path.{ap, ◌∙◌}
+use mathlib.Core.Path.{refl, ap, ◌∙◌}
+use native.Mathlib.Omega.{arith}
 use lib.ListN.{length}
 use lib.Seq.{length-sets}
-use Rattle.failures.proofs.Answered.{refused-lengths, accepted-lengths, too_short, all_fit, all-written}
+use Rattle.rules.specs.Refusals.{number_of}
+use Rattle.rules.proofs.Refusals.{is-refused}
+use Rattle.failures.specs.Answers.{ListAnswer}
+use Rattle.failures.proofs.Answered.{passed-up, refused-lengths, accepted-lengths, too_short, all_fit, all-written}
 use Rattle.failures.proofs.list.failures.Goals as goal
 
-pub frames_in-cycles-requires : goal.frames_in-cycles-requires
-frames_in-cycles-requires c = tt
-
-pub lengths_refusal-refused-requires : goal.lengths_refusal-refused-requires
-lengths_refusal-refused-requires c = tt
-
-pub returns-then-refused-ne0 : goal.returns-then-refused-ne0
-returns-then-refused-ne0 c =
+pub returns-in_err-lengths_refusal : goal.returns-in_err-lengths_refusal
+returns-in_err-lengths_refusal c =
     let a = c.args in
-    let tested = c.lengths_refusal-refused in
+    let e = c.in_err-lengths_refusal.field-0.0 in
     let frames = c.frames_in-cycles in
-    refused-lengths a.c a.trace.now frames.result tested.result frames.ensures tested.ensures a.list.now c.if-refused-ne0.true
+    passed-up c.from_residual.result e c.from_residual.ensures.1 (ListAnswer a.c a.trace.now a.list.now a.list.now)
+    (refused-lengths a.c a.trace.now frames.result (number_of e) frames.ensures c.in_err-lengths_refusal.ensures a.list.now (λ z. omega (arith, is-refused e, z)))
 
 pub count_all-count-requires : goal.count_all-count-requires
 count_all-count-requires c =
     let a = c.args in
-    let tested = c.lengths_refusal-refused in
     let frames = c.frames_in-cycles in
-    accepted-lengths a.c a.trace.now frames.result tested.result frames.ensures tested.ensures c.if-refused-ne0.false
+    accepted-lengths a.c a.trace.now frames.result 0 frames.ensures c.in_ok-lengths_refusal.ensures refl
 
 pub write_all-requires : goal.write_all-requires
 write_all-requires c =
     let a = c.args in
-    let tested = c.lengths_refusal-refused in
     let frames = c.frames_in-cycles in
-    let accepted = c.if-refused-ne0.false in
     let counted = c.count_all-count in
-    let ok = accepted-lengths a.c a.trace.now frames.result tested.result frames.ensures tested.ensures accepted in (
+    let ok = accepted-lengths a.c a.trace.now frames.result 0 frames.ensures c.in_ok-lengths_refusal.ensures refl in (
       ok.0,
       ok.1,
-      all_fit a.c a.trace.now frames.result tested.result frames.ensures tested.ensures accepted a.list.now counted.result
-          counted.ensures.0 c.if-list-count.false,
+      all_fit a.c a.trace.now frames.result 0 frames.ensures c.in_ok-lengths_refusal.ensures refl a.list.now counted.result counted.ensures.0 c.if-list-count.false,
     )
 
 pub returns-then-list-count : goal.returns-then-list-count
 returns-then-list-count c =
     let a = c.args in
-    let tested = c.lengths_refusal-refused in
     let frames = c.frames_in-cycles in
     let counted = c.count_all-count in
-    too_short a.c a.trace.now frames.result tested.result frames.ensures tested.ensures c.if-refused-ne0.false a.list.now
-    counted.result counted.ensures.0
-    c.if-list-count.true
-
-pub shape_of-list : goal.shape_of-list
-shape_of-list c = ap length c.write_all.ensures ∙ simp length-sets
+    too_short a.c a.trace.now frames.result 0 frames.ensures c.in_ok-lengths_refusal.ensures refl a.list.now counted.result counted.ensures.0 c.if-list-count.true
 
 pub returns : goal.returns
 returns c =
     let a = c.args in
-    let tested = c.lengths_refusal-refused in
     let frames = c.frames_in-cycles in
-    let accepted = c.if-refused-ne0.false in
     let counted = c.count_all-count in
-    all-written a.c a.trace.now frames.result tested.result frames.ensures tested.ensures accepted a.list.now counted.result
-    counted.ensures.0
+    all-written a.c a.trace.now frames.result 0 frames.ensures c.in_ok-lengths_refusal.ensures refl a.list.now counted.result counted.ensures.0
     c.if-list-count.false counted.ensures.1 _ c.write_all.ensures

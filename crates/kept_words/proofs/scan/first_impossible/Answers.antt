@@ -3,7 +3,6 @@
 use Rattle.std.proofs.Common.{◌≡◌, length, zero-le, arith}
 use Rattle.kept_words.proofs.Scans.{passed_none, first-none, first-in, passed-block}
 use Rattle.kept_words.proofs.scan.first_impossible.Goals as goal
-use Rattle.kept_words.proofs.scan.first_impossible.Goals.{then-n-t-lt-BLOCK, else-n-t-lt-BLOCK}
 
 pub loop-t-init : goal.loop-t-init
 loop-t-init c = let a = c.args in passed_none a.c a.words.now 0 (length a.words.now) zero-le
@@ -12,31 +11,31 @@ loop-t-init c = let a = c.args in passed_none a.c a.words.now 0 (length a.words.
 pub first_in_block-reached-requires : goal.first_in_block-reached-requires
 first_in_block-reached-requires c = (
   c.requires,
-  elim c.if-n-t-lt-BLOCK.branch [ then-n-t-lt-BLOCK w ↦ omega arith | else-n-t-lt-BLOCK w ↦ omega arith ],
-  elim c.if-n-t-lt-BLOCK.branch [ then-n-t-lt-BLOCK w ↦ omega arith | else-n-t-lt-BLOCK w ↦ omega arith ],
+  omega arith,
+  omega arith,
 )
 
 pub overflow_add-t : goal.overflow_add-t
 overflow_add-t c =
-    elim c.if-n-t-lt-BLOCK.branch [ then-n-t-lt-BLOCK w ↦ omega arith | else-n-t-lt-BLOCK w ↦ omega arith ]
+    omega arith
 
 pub returns-then-reached-t : goal.returns-then-reached-t
 returns-then-reached-t c =
     let a = c.args in
-    first-in a.c a.words.now 0 (length a.words.now) c.loop-t.invariant (elim c.if-n-t-lt-BLOCK.branch [ then-n-t-lt-BLOCK w ↦ omega arith | else-n-t-lt-BLOCK w ↦ omega arith ]) c.first_in_block-reached.ensures c.if-reached-t.true
+    first-in a.c a.words.now 0 (length a.words.now) c.loop-t.invariant (omega arith) c.first_in_block-reached.ensures c.if-reached-t.true
 
 pub overflow_add-t-in-loop-t : goal.overflow_add-t-in-loop-t
 overflow_add-t-in-loop-t c =
-    elim c.if-n-t-lt-BLOCK.branch [ then-n-t-lt-BLOCK w ↦ omega arith | else-n-t-lt-BLOCK w ↦ omega arith ]
+    omega arith
 
 pub loop-t-smaller : goal.loop-t-smaller
 loop-t-smaller c =
-    elim c.if-n-t-lt-BLOCK.branch [ then-n-t-lt-BLOCK w ↦ omega arith | else-n-t-lt-BLOCK w ↦ omega arith ]
+    omega arith
 
 pub loop-t-preserved : goal.loop-t-preserved
 loop-t-preserved c =
     let a = c.args in
-    passed-block a.c a.words.now 0 (length a.words.now) c.loop-t.invariant (elim c.if-n-t-lt-BLOCK.branch [ then-n-t-lt-BLOCK w ↦ omega arith | else-n-t-lt-BLOCK w ↦ omega arith ]) c.first_in_block-reached.ensures c.if-reached-t.false
+    passed-block a.c a.words.now 0 (length a.words.now) c.loop-t.invariant (omega arith) c.first_in_block-reached.ensures c.if-reached-t.false
 
 pub returns : goal.returns
 returns c =

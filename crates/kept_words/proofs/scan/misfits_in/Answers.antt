@@ -1,22 +1,25 @@
 -- `kept_words::scan::misfits_in` meets its contract. The loop's invariant: no bits where each of the words passed is possible for a checker that goes on. The
 -- measure is what is left of them. Assumes nothing.
-use Rattle.std.proofs.Common.{◌≡◌, refl, add-one, arith}
+use Rattle.std.proofs.Common.{◌≡◌, length, refl, add-one, arith}
 use Rattle.bits.specs.Bits.{every}
 use Rattle.misfits.proofs.Misfits.{or-zero}
 use Rattle.kept_words.proofs.scan.misfits_in.Goals as goal
 
-pub loop-i-init : goal.loop-i-init
+pub loop-word-init : goal.loop-word-init
 unfolding every
-loop-i-init c = (omega arith, refl)
+loop-word-init c = refl
 
 pub misfit-bits-requires : goal.misfit-bits-requires
-misfit-bits-requires c = c.requires.0
+misfit-bits-requires c = c.requires
 
-pub loop-i-preserved : goal.loop-i-preserved
+pub loop-word-preserved : goal.loop-word-preserved
 unfolding every
-loop-i-preserved c =
-    let at = c.loop-i in
-    (omega arith, rw (add-one at.i, or-zero at.bits c.misfit-bits.result, at.invariant.1, c.misfit-bits.ensures))
+loop-word-preserved c =
+    let at = c.loop-word in
+    rw (add-one at.word-index, or-zero at.bits c.misfit-bits.result, at.invariant, c.misfit-bits.ensures) refl
 
 pub returns : goal.returns
-returns c = let at = c.loop-i in let all : at.i ≡ c.args.count = omega arith in rw all at at.invariant.1
+returns c =
+    let at = c.loop-word in
+    let all : at.word-index ≡ length c.args.block.now = omega arith in
+    rw all at at.invariant

@@ -1,14 +1,9 @@
--- `marks_args::text::text_of` meets its contract: after i bytes it has what is kept of them. The measure is how many are left. Assumes nothing.
-use Prim.Native.Nat.{◌≤◌, ◌-◌}
+-- `marks_args::text::text_of` meets its contract: after so many bytes it has what is kept of them. Assumes nothing.
 use mathlib.Core.Path.{◌≡◌}
-use lib.ListN.{length, take}
+use lib.ListN.{take}
 use Rattle.dump_words.specs.Gather.{no_text}
 use Rattle.dump_gathered.specs.Gathered.{text_of}
-use Rattle.marks_args.proofs.Laws as laws
 use Rattle.marks_args.proofs.text.text_of.Given as goal
 
-abbrev pub invariant-loop-i : goal.invariant-loop-i
-invariant-loop-i l = (l.i ≤ length l.word) × (l.t ≡ text_of no_text (take l.i l.word))
-
-abbrev pub decreases-loop-i : goal.decreases-loop-i
-decreases-loop-i l = length l.word - l.i
+abbrev pub invariant-loop-b : goal.invariant-loop-b
+invariant-loop-b l = l.t ≡ text_of no_text (take l.b-index l.word)

@@ -1,13 +1,9 @@
--- `marks_args::wires::put_wires` meets its contract: what is left to put, put into the table as it is, gives the table that is due. The measure is how many are left.
+-- `marks_args::wires::put_wires` meets its contract: what is left to put, put into the table as it is, gives the table that is due.
 -- Assumes nothing.
-use Prim.Native.Nat.{◌≤◌, ◌-◌, ◌+◌}
+use Prim.Native.Nat.{◌-◌, ◌+◌}
 use mathlib.Core.Path.{◌≡◌}
 use Rattle.marks_args.specs.Wires.{with_wires}
-use Rattle.marks_args.proofs.Laws as laws
 use Rattle.marks_args.proofs.wires.put_wires.Given as goal
 
 abbrev pub invariant-loop-k : goal.invariant-loop-k
-invariant-loop-k l = (l.k ≤ l.count) × (with_wires l.initial.wires l.first l.code l.low l.count ≡ with_wires l.wires (l.first + l.k) l.code (l.low + l.k) (l.count - l.k))
-
-abbrev pub decreases-loop-k : goal.decreases-loop-k
-decreases-loop-k l = l.count - l.k
+invariant-loop-k l = with_wires l.initial.wires l.first l.code l.low l.count ≡ with_wires l.wires (l.first + l.k) l.code (l.low + l.k) (l.count - l.k)

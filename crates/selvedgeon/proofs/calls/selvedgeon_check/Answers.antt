@@ -2,4 +2,4 @@
 use Rattle.selvedgeon.proofs.calls.selvedgeon_check.Goals as goal
 
 pub returns : goal.returns
-returns c = let d = c.before.before in rw d.config_of-config.ensures at d.full_check.ensures
+returns c = rw c.refusal_number.ensures (rw c.config_of-config.ensures at c.full_check.ensures)

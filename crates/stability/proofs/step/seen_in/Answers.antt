@@ -1,6 +1,6 @@
 -- `stability::step::seen_in` meets its contract. Assumes nothing.
 use mathlib.Core.Path.{◌≡◌, sym, ◌∙◌}
-use mathlib.Core.Bool.{true, false}
+use mathlib.Core.Bool.{false}
 use Rattle.bits.proofs.Tests.{of-true, of-false}
 use Rattle.rules.specs.Frame.{up}
 use Rattle.rules.proofs.Good.{q-within, stability-config}

@@ -56,8 +56,10 @@ returns c =
     let a = s.args in
     let one = (time-config a.c s.requires.0 s.requires.1).q-width in
     let test = q.wire-test in
+    let opened = c.default.ensures.1.1.0 in
+    let restarted = c.default.ensures.1.1.1.1.0 in
     let unknown = test-unknown a.c a.word a.frame one q.wire-unknown.result q.wire-unknown.ensures in
     let missed = test-missed a.c a.word a.frame one test.result q.wire-unknown.result (wire_is a.c.q c.sample-2.result _ c.wire-test.result c.wire-test.ensures c.sample-2.ensures) q.wire-unknown.ensures in
-    time-steps a.c a.word a.frame w.wire-start.result c.row_of.result (a.word - 1) (wire_is a.c.p c.sample.result _ c.wire-start.result c.wire-start.ensures c.sample.ensures)
+    time-steps a.c a.word a.frame w.wire-start.result c.row.result (a.word - 1) (wire_is a.c.p c.sample.result _ c.wire-start.result c.wire-start.ensures c.sample.ensures)
     (time-tests a.c.kind a.c.n a.word (test_missed a.c a.frame) (test_unknown a.c a.frame) e.if-word-eq0.false w.wire-start.result
-    c.row_of.result e.if-start-c.false (rw (← missed, ← unknown) c.row_of.ensures))
+    c.row.result e.if-start-c.false (rw (← missed, ← unknown) (rw (opened, restarted) at c.row.ensures)))

@@ -7,16 +7,16 @@ use Rattle.bits.specs.Bits.{bit}
 use Rattle.bits.proofs.Bits.{bit-number}
 use Rattle.bus.specs.Range.{width}
 use Rattle.bus.specs.declared.range.Range.{Range}
-use Rattle.bus.proofs.Ranges.{right-low, value-descending, value-ascending}
+use Rattle.bus.proofs.Ranges.{right-low, down, up, value-descending, value-ascending}
 use Rattle.bus.proofs.range.Range.low_bits.Goals as goal
 
-down : (r : Range) (k : ℕ) → r.right ≤ r.left → k < width r → k < suc (r.left - r.right)
+wide-down : (r : Range) (k : ℕ) → r.right ≤ r.left → k < width r → k < suc (r.left - r.right)
 unfolding width
-down r k h l = rw (le-leb r.right r.left h) at l
+wide-down r k h l = rw (le-leb r.right r.left h) at l
 
-up : (r : Range) (k : ℕ) → r.left < r.right → k < width r → k < suc (r.right - r.left)
+wide-up : (r : Range) (k : ℕ) → r.left < r.right → k < width r → k < suc (r.right - r.left)
 unfolding width
-up r k h l = rw (lt-leb r.right r.left h) at l
+wide-up r k h l = rw (lt-leb r.right r.left h) at l
 
 pub upward-requires : goal.upward-requires
 upward-requires c = right-low c.args.self c.requires
@@ -24,20 +24,20 @@ upward-requires c = right-low c.args.self c.requires
 pub downward-requires : goal.downward-requires
 downward-requires c = right-low c.args.self c.requires
 
-pub returns-then-right-left : goal.returns-then-right-left
-returns-then-right-left c = λ k l.
+pub returns-then-descends : goal.returns-then-descends
+returns-then-descends c = λ k l.
     let a = c.args in
-    let h = c.if-right-left.true in
+    let h = down a.self _ c.descends.ensures c.if-descends.true in
     c.upward.ensures k
     ∙ sym
     (ap (λ (x : ℕ). bit x k) (value-descending a.self a.wires h)
-    ∙ bit-number (suc (a.self.left - a.self.right)) (λ (i : ℕ). bit a.wires (a.self.right + i)) k (down a.self k h l))
+    ∙ bit-number (suc (a.self.left - a.self.right)) (λ (i : ℕ). bit a.wires (a.self.right + i)) k (wide-down a.self k h l))
 
-pub returns-else-right-left : goal.returns-else-right-left
-returns-else-right-left c = λ k l.
+pub returns-else-descends : goal.returns-else-descends
+returns-else-descends c = λ k l.
     let a = c.args in
-    let h = c.if-right-left.false in
-    let m = up a.self k h l in
+    let h = up a.self _ c.descends.ensures c.if-descends.false in
+    let m = wide-up a.self k h l in
     c.downward.ensures k (omega (arith, m))
     ∙ sym
     (ap (λ (x : ℕ). bit x k) (value-ascending a.self a.wires h)

@@ -1,0 +1,2 @@
+-- Laws that the proofs of `marks_line` cite.
+pub mod Laws

@@ -1,0 +1,2 @@
+-- What the contracts of `marks_line` cite.
+pub mod Lines

@@ -1,2 +1,0 @@
--- Laws of the refusals of one checker.
-pub mod Tests

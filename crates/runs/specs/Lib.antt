@@ -1,0 +1,2 @@
+-- What the runs of a stretch ask for.
+pub mod Asks

@@ -1,8 +1,0 @@
-// Kind 6: runs of a stretch, of a fatal checker.
-#![tactic(auto)]
-
-mod fill;
-mod run;
-mod seek;
-
-pub use run::fatal_transition;
