@@ -4,7 +4,7 @@ ghost use Rattle.dump.specs.Changes.{value_of};
 ghost use Rattle.dump_change.specs.Change.{dumps, in_dump, on_dollar, on_comment, on_vector, on_real};
 
 use crate::wave::{Wave, wave_at};
-use dump_words::{Keyword, Text, one_of, text_is};
+use dump_words::{Keyword, Text, is_one_of, text_is};
 
 // 0, 1, or 2 for x and z; 3 for any other byte. The definition `value_of` and the digits in a reader's state have the 3 too, so it is no Option.
 pub fn value_of(b: u8) -> u8
@@ -64,7 +64,7 @@ pub fn on_dollar(w: Wave, t: Text) -> Wave
         Keyword(7, 31084776101602340, 0),
         Keyword(9, 8241999018309542948, 115),
     ];
-    if one_of(t, &words) {
+    if is_one_of(t, &words) {
         return with_dumping(w, 1);
     }
     // $comment

@@ -3,7 +3,7 @@ ghost use Rattle.std.specs.Prelude.{◌≡◌};
 ghost use Rattle.dump_declare.specs.Declare.{opens, closes, declares, ends_all, on_command, on_comment, on_scale, on_unit, on_command_end, on_scope_type, on_scope_name};
 
 use crate::head::{Head, at_command, at_place};
-use dump_words::{Keyword, Text, one_of, text_is};
+use dump_words::{Keyword, Text, is_one_of, text_is};
 
 fn open_scope(h: Head) -> Head
     ensures { result ≡ opens h }
@@ -50,7 +50,7 @@ pub fn on_command(h: Head, t: Text) -> Head
         Keyword(5, 435744236580, 0),
         Keyword(8, 7957695011148363300, 0),
     ];
-    if one_of(t, &skipped) {
+    if is_one_of(t, &skipped) {
         return at_place(h, 1);
     }
     // $timescale
@@ -95,7 +95,7 @@ pub fn on_scale(h: Head, t: Text) -> Head
         Keyword(2, 12337, 0),
         Keyword(3, 3158065, 0),
     ];
-    if one_of(t, &ones) {
+    if is_one_of(t, &ones) {
         return at_place(h, 3);
     }
     // 1s 1ms 1us 1ns 1ps 1fs 10s 10ms 10us 10ns 10ps 10fs 100s 100ms 100us 100ns 100ps 100fs
@@ -119,7 +119,7 @@ pub fn on_scale(h: Head, t: Text) -> Head
         Keyword(5, 495803445297, 0),
         Keyword(5, 495635673137, 0),
     ];
-    if one_of(t, &scales) {
+    if is_one_of(t, &scales) {
         return at_place(h, 4);
     }
     at_place(h, 110)
@@ -137,7 +137,7 @@ pub fn on_unit(h: Head, t: Text) -> Head
         Keyword(2, 29552, 0),
         Keyword(2, 29542, 0),
     ];
-    if one_of(t, &units) {
+    if is_one_of(t, &units) {
         return at_place(h, 4);
     }
     at_place(h, 110)
@@ -163,7 +163,7 @@ pub fn on_scope_type(h: Head, t: Text) -> Head
         Keyword(6, 111516500389741, 0),
         Keyword(4, 1802723700, 0),
     ];
-    if one_of(t, &types) {
+    if is_one_of(t, &types) {
         return at_place(h, 6);
     }
     at_place(h, 110)

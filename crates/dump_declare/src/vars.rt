@@ -4,7 +4,7 @@ ghost use Rattle.dump_declare.specs.Declare.{typed, on_var_type, sized, on_width
 
 use crate::head::{Head, at_command, at_place, at_range};
 use dump_find::{bounded_count, find};
-use dump_words::{Keyword, Number, Scan, Text, one_of, text_is};
+use dump_words::{Keyword, Number, Scan, Text, is_one_of, text_is};
 
 fn with_type(h: Head, real: u64) -> Head
     ensures { result ≡ typed h real }
@@ -38,7 +38,7 @@ pub fn on_var_type(h: Head, t: Text) -> Head
         Keyword(4, 1701996919, 0),
         Keyword(3, 7499639, 0),
     ];
-    if one_of(t, &bits) {
+    if is_one_of(t, &bits) {
         return with_type(h, 0);
     }
     // real realtime
@@ -46,7 +46,7 @@ pub fn on_var_type(h: Head, t: Text) -> Head
         Keyword(4, 1818322290, 0),
         Keyword(8, 7308613719047628146, 0),
     ];
-    if one_of(t, &reals) {
+    if is_one_of(t, &reals) {
         return with_type(h, 1);
     }
     at_place(h, 110)

@@ -1,10 +1,8 @@
 // What a load answers.
 ghost use Rattle.std.specs.Prelude.{◌≡◌};
-ghost use Rattle.rules.specs.Refusals.{number_of};
 ghost use Rattle.dump_load.specs.Loading.{refused_with, answered};
 
 use dump_reader::{Reader, place_of};
-use rules::Refusal;
 
 // The C host reads it, so the refusal stands by its number, 0 for none.
 #[repr(C)]
@@ -28,12 +26,12 @@ impl Loaded {
     };
 }
 
-// Refused before anything is read.
-pub fn refused_with(refusal: Refusal) -> Loaded
-    ensures { result ≡ refused_with (number_of refusal) }
+// Refused before anything is read, with any number.
+pub fn refused_with(refusal: u32) -> Loaded
+    ensures { result ≡ refused_with refusal }
 {
     Loaded {
-        refusal: refusal.number(),
+        refusal,
         ..Loaded::NONE
     }
 }

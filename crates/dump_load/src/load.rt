@@ -41,7 +41,7 @@ pub fn load_dump(dump: &[u8], wires: &[u64], frames: &mut [u32]) -> Loaded
         if wires.len() == 258 {
             return read_dump(dump, wires, frames);
         }
-        return refused_with(Refusal::SliceLength);
+        return refused_with(Refusal::SliceLength.number());
     }
-    refused_with(Refusal::TraceLength)
+    refused_with(Refusal::TraceLength.number())
 }

@@ -41,7 +41,7 @@ pub fn end(state: State, frames: &mut [u32]) -> Read
         return give_again(state);
     }
     match length_refusal(state.table, frames.len()) {
-        Err(refusal) => refuse(state, refusal),
+        Err(refusal) => refuse(state, refusal.number()),
         Ok(()) => take_end(state, frames),
     }
 }

@@ -34,7 +34,7 @@ pub fn piece(state: State, bytes: &[u8], frames: &mut [u32]) -> Read
         return give_again(state);
     }
     match length_refusal(state.table, frames.len()) {
-        Err(refusal) => refuse(state, refusal),
+        Err(refusal) => refuse(state, refusal.number()),
         Ok(()) => take_piece(state, bytes, frames),
     }
 }

@@ -1,6 +1,6 @@
 // What a call tests before it reads.
 ghost use Rattle.std.specs.Prelude.{◌≡◌};
-ghost use Rattle.rules.specs.Refusals.{number_of, refusal_of};
+ghost use Rattle.rules.specs.Refusals.{refusal_of};
 ghost use Rattle.dump_state.specs.Pieces.{length_refusal, again, refusing};
 
 use crate::state::{Read, State};
@@ -36,9 +36,9 @@ pub fn give_again(state: State) -> Read
     }
 }
 
-// A refusal by a length, which stands from now on.
-pub fn refuse(mut state: State, refusal: Refusal) -> Read
-    ensures { result ≡ refusing state (number_of refusal) }
+// A refusal by a length, or by any number, which stands from now on.
+pub fn refuse(mut state: State, refusal: u32) -> Read
+    ensures { result ≡ refusing state refusal }
 {
     let answer = refused_with(refusal);
     state.stand(answer);

@@ -7,4 +7,4 @@ mod text;
 
 pub use number::{Number, add_digit};
 pub use scan::{Scan, add_scan};
-pub use text::{Keyword, Text, add_text, one_of, text_is};
+pub use text::{Keyword, Text, add_text, is_one_of, one_of, text_is};

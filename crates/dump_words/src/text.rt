@@ -90,8 +90,20 @@ pub fn text_is(t: Text, k: Keyword) -> bool
     t.high == k.2
 }
 
-// Whether the word is one of a list.
-pub fn one_of(t: Text, list: &[Keyword]) -> bool
+// Whether the word is one of a list: three numbers of each, as a keyword has them. One or two numbers left over at the end are no word.
+pub fn one_of(t: Text, list: &[u64]) -> bool
+    ensures { result ≡ text_in t list.now }
+{
+    for k in list.chunks_exact(3) {
+        if text_is(t, Keyword(k[0], k[1], k[2])) {
+            return true;
+        }
+    }
+    false
+}
+
+// Whether the word is one of these keywords.
+pub fn is_one_of(t: Text, list: &[Keyword]) -> bool
     ensures { result ≡ text_in t (numbers_of list.now) }
 {
     for k in list {

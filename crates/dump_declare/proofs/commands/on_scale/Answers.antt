@@ -2,14 +2,14 @@ use Rattle.dump_declare.specs.Declare.{on_scale}
 use mathlib.Core.Path.{◌∙◌, sym}
 use Rattle.dump_declare.proofs.commands.on_scale.Goals as goal
 
-pub returns-then-one_of : goal.returns-then-one_of
+pub returns-then-is_one_of : goal.returns-then-is_one_of
 unfolding on_scale
-returns-then-one_of c = simp (c.at_place.ensures, sym c.one_of.ensures ∙ c.if-one_of.true)
+returns-then-is_one_of c = simp (c.at_place.ensures, sym c.is_one_of.ensures ∙ c.if-is_one_of.true)
 
-pub returns-then-one_of-2 : goal.returns-then-one_of-2
+pub returns-then-is_one_of-2 : goal.returns-then-is_one_of-2
 unfolding on_scale
-returns-then-one_of-2 c = simp (c.at_place-then-one_of-2.ensures, sym c.one_of-2.ensures ∙ c.if-one_of-2.true, sym c.one_of.ensures ∙ c.if-one_of.false)
+returns-then-is_one_of-2 c = simp (c.at_place-then-is_one_of-2.ensures, sym c.is_one_of-2.ensures ∙ c.if-is_one_of-2.true, sym c.is_one_of.ensures ∙ c.if-is_one_of.false)
 
 pub returns : goal.returns
 unfolding on_scale
-returns c = simp (c.at_place-2.ensures, sym c.one_of-2.ensures ∙ c.if-one_of-2.false, sym c.one_of.ensures ∙ c.if-one_of.false)
+returns c = simp (c.at_place-2.ensures, sym c.is_one_of-2.ensures ∙ c.if-is_one_of-2.false, sym c.is_one_of.ensures ∙ c.if-is_one_of.false)

@@ -1,7 +1,8 @@
+use Rattle.dump_load.specs.Loading.{refused_with}
 use Rattle.dump_load.proofs.Laws as laws
 use Rattle.dump_load.proofs.Meets.{meets}
 use Rattle.dump_gathered.proofs.Codes.{bytes-at}
-use mathlib.Core.Path.{◌∙◌, sym}
+use mathlib.Core.Path.{◌∙◌, sym, ap}
 use native.Mathlib.Omega.{arith}
 use Rattle.dump_load.proofs.load.load_dump.Goals as goal
 
@@ -14,7 +15,7 @@ returns-then-wires-eq258 c =
     (laws.good-answer c.args.dump.now c.args.wires.now c.args.frames.now (sym c.frames_fit.ensures ∙ c.if-frames_fit.true) c.if-wires-eq258.true _ (c.read_dump.ensures.0 ∙ m.0), laws.good-frames c.args.dump.now c.args.wires.now c.args.frames.now (sym c.frames_fit.ensures ∙ c.if-frames_fit.true) c.if-wires-eq258.true _ (c.read_dump.ensures.1 ∙ m.1))
 
 pub returns-then-frames_fit : goal.returns-then-frames_fit
-returns-then-frames_fit c = let l = laws.wrong-table c.args.dump.now c.args.wires.now c.args.frames.now (sym c.frames_fit.ensures ∙ c.if-frames_fit.true) c.if-wires-eq258.false in (c.refused_with.ensures ∙ l.0, l.1)
+returns-then-frames_fit c = let l = laws.wrong-table c.args.dump.now c.args.wires.now c.args.frames.now (sym c.frames_fit.ensures ∙ c.if-frames_fit.true) c.if-wires-eq258.false in (c.refused_with.ensures ∙ ap refused_with c.number.ensures ∙ l.0, l.1)
 
 pub returns : goal.returns
-returns c = let l = laws.wrong-frames c.args.dump.now c.args.wires.now c.args.frames.now (sym c.frames_fit.ensures ∙ c.if-frames_fit.false) in (c.refused_with-2.ensures ∙ l.0, l.1)
+returns c = let l = laws.wrong-frames c.args.dump.now c.args.wires.now c.args.frames.now (sym c.frames_fit.ensures ∙ c.if-frames_fit.false) in (c.refused_with-2.ensures ∙ ap refused_with c.number-2.ensures ∙ l.0, l.1)
