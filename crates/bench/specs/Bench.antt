@@ -2,7 +2,7 @@
 use Rattle.std.specs.Prelude.{ℕ, ◌+◌, ◌*◌, ◌/◌, ◌%◌, ◌<◌, ◌≡◌, List, length, get_or, Result, Ok, Err}
 use Rattle.rules.specs.declared.config.Config.{Config}
 use Rattle.rules.specs.Frame.{frame_words}
-use Rattle.rules.specs.Refusals.{number_of}
+use Rattle.rules.specs.Refusals.{number_of, cycle_named}
 use Rattle.rules.specs.Possible.{word_refusal}
 use Rattle.rules.specs.Step.{step_row, step_word}
 use Rattle.trace.specs.Traces.{frame_at}
@@ -37,6 +37,11 @@ bad_number bad = 256 * number_of bad.refusal + bad.checker
 abbrev pub answer_of : {A : Type 0} → Result A BadChecker → ℕ
 answer_of (Ok _) = 0
 answer_of (Err bad) = bad_number bad
+
+-- the cycle that an answer names: a bad checker of a bench has none
+abbrev pub cycle_of_bad : {A : Type 0} → Result A BadChecker → ℕ
+cycle_of_bad (Ok _) = 0
+cycle_of_bad (Err bad) = cycle_named bad.refusal
 
 -- An answer is 256 times the refusal and the bad checker's number, or 0.
 pub record Tested (table : List Config) (words : List ℕ) (answer : ℕ) : Type 0 where

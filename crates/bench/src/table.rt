@@ -1,6 +1,6 @@
 // The loops over a lent table of configurations. They are not offered to the viewer, who calls `selvedgeon_bench`.
 ghost use Rattle.std.specs.Prelude.{◌≡◌, ◌≤◌, length};
-ghost use Rattle.bench.specs.Bench.{bad_number, answer_of, Tested, Stepped, Steppable, BenchAnswer};
+ghost use Rattle.bench.specs.Bench.{bad_number, answer_of, cycle_of_bad, Tested, Stepped, Steppable, BenchAnswer};
 
 use bench_lengths::lengths_answer;
 use one_checker::{step_one, test_one};
@@ -30,7 +30,8 @@ pub fn bench(
     words: &mut [u64],
     rows: &mut [u32],
 ) -> Result<(), BadChecker>
-    ensures { BenchAnswer table.now frames.now words.old rows.old words.new rows.new (answer_of result) }
+    ensures answer { BenchAnswer table.now frames.now words.old rows.old words.new rows.new (answer_of result) }
+    ensures no_cycle { cycle_of_bad result ≡ 0 }
 {
     match lengths_answer(table.len(), frames.len(), words.len(), rows.len()) {
         Ok(()) => {
@@ -48,7 +49,8 @@ pub fn bench(
 // Refuses the first bad checker.
 pub fn test_all(table: &[Config], words: &[u64]) -> Result<(), BadChecker>
     requires { (length words.now ≡ length table.now) × (length table.now ≤ 64) }
-    ensures { Tested table.now words.now (answer_of result) }
+    ensures tested { Tested table.now words.now (answer_of result) }
+    ensures no_cycle { cycle_of_bad result ≡ 0 }
 {
     for (k, (config, word)) in table.iter().zip(words).enumerate() {
         match test_one(*config, *word) {

@@ -1,5 +1,6 @@
 // One step by value.
-ghost use Rattle.rules.specs.Refusals.{refusal_of};
+ghost use Rattle.std.specs.Prelude.{◌≡◌};
+ghost use Rattle.rules.specs.Refusals.{refusal_of, cycle_of};
 ghost use Rattle.checker.specs.Calls.{row_answered, monitor_left, StepAnswer};
 
 use one_step::step;
@@ -23,7 +24,8 @@ pub struct Stepped {
 impl Monitor {
     // One step on a frame; refusals 1, 2, 3 and 7. Refused: there is no row, and the monitor stays as it was.
     pub fn step(self, frame: Frame) -> Result<Stepped, Refusal>
-        ensures { StepAnswer self.config self.word frame (refusal_of result) (row_answered result) (monitor_left self result) }
+        ensures answer { StepAnswer self.config self.word frame (refusal_of result) (row_answered result) (monitor_left self result) }
+        ensures no_cycle { cycle_of result ≡ 0 }
     {
         refusal(self.config, self.word)?;
         let next = step(self.config, self.word, frame);

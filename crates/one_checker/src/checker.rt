@@ -2,7 +2,7 @@
 ghost use Rattle.std.specs.Prelude.{◌≡◌, ◌<◌, T, length, get_or};
 ghost use Rattle.rules.specs.Config.{Good};
 ghost use Rattle.rules.specs.Possible.{possible, word_refusal};
-ghost use Rattle.rules.specs.Refusals.{refusal_of};
+ghost use Rattle.rules.specs.Refusals.{refusal_of, cycle_of};
 ghost use Rattle.trace.specs.Traces.{frames as framesOf};
 ghost use Rattle.one_checker.specs.One.{stepped_words, stepped_rows};
 
@@ -14,7 +14,8 @@ use trace::frame_at;
 
 // Refuses a checker or its open word. The two tests are called here, as in `open_words::refusal`: a call of that took a bench 1.42 of the time before.
 pub fn test_one(c: Config, word: u64) -> Result<(), Refusal>
-    ensures { refusal_of result ≡ word_refusal c word }
+    ensures number { refusal_of result ≡ word_refusal c word }
+    ensures no_cycle { cycle_of result ≡ 0 }
 {
     config_refusal(c)?;
     if is_possible(c, word) {

@@ -22,8 +22,8 @@ returns-in_err-stepped c =
     let a = c.args in
     let e = c.in_err-stepped.field-0.0 in
     passed-up c.from_residual-in_err-stepped.result e c.from_residual-in_err-stepped.ensures.1 (ByteStep a.config a.frame a.word.now a.word.now)
-    (word-refused (sym c.in_ok-config_refusal.ensures) c.if-word-ne8.false c.load.ensures c.in_err-stepped.ensures (λ z. omega (arith, is-refused e, z)))
+    (word-refused (sym c.in_ok-config_refusal.ensures) c.if-word-ne8.false c.load.ensures c.in_err-stepped.ensures.answer (λ z. omega (arith, is-refused e, z)))
 
 pub returns : goal.returns
 returns c =
-    taken (sym c.in_ok-config_refusal.ensures) c.if-word-ne8.false c.load.ensures c.in_ok-stepped.ensures refl c.store.ensures
+    taken (sym c.in_ok-config_refusal.ensures) c.if-word-ne8.false c.load.ensures c.in_ok-stepped.ensures.answer refl c.store.ensures

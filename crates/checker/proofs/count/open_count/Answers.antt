@@ -15,20 +15,20 @@ turned : (b : Bool) → bool_byte (not b) ≡ cond b 0 1
 turned true = refl
 turned false = refl
 
-pub returns-then-word-eq-STOPPED : goal.returns-then-word-eq-STOPPED
-returns-then-word-eq-STOPPED c = count-stopped c.args.c c.args.word (sym c.in_ok-refusal.ensures.number) c.if-word-eq-STOPPED.true
+pub returns-then-word-eq-STOPPED-clause-answer : goal.returns-then-word-eq-STOPPED-clause-answer
+returns-then-word-eq-STOPPED-clause-answer c = count-stopped c.args.c c.args.word (sym c.in_ok-refusal.ensures.number) c.if-word-eq-STOPPED.true
 
 pub family-requires : goal.family-requires
 family-requires c = let a = c.args in kind-low a.c (not_refused a.c a.word (sym c.in_ok-refusal.ensures.number)).good
 
-pub returns-in-Sequence : goal.returns-in-Sequence
+pub returns-in-Sequence-clause-answer : goal.returns-in-Sequence-clause-answer
 unfolding open_count_of
-returns-in-Sequence c =
+returns-in-Sequence-clause-answer c =
     let a = c.args in
     count-taken a.c a.word (sym c.in_ok-refusal.ensures.number) c.if-word-eq-STOPPED.false sequence (ones a.word) (rw c.in-Sequence.is at c.family.ensures) refl
 
-pub returns-in_default : goal.returns-in_default
-returns-in_default c =
+pub returns-in_default-clause-answer : goal.returns-in_default-clause-answer
+returns-in_default-clause-answer c =
     let a = c.args in
     count-one a.c a.word (sym c.in_ok-refusal.ensures.number) c.if-word-eq-STOPPED.false c.family.result c.from.result c.in_default.not-Sequence c.family.ensures
     (c.from.ensures ∙ turned (eqb a.word 0))

@@ -7,7 +7,7 @@ pub returns-in-Ok : goal.returns-in-Ok
 returns-in-Ok c =
     let a = c.args in
     let count = c.in-Ok.count in
-    let few : count ≤ 64 = count_low a.config a.word 0 count c.ranges.word.fits c.in-Ok.ensures in
+    let few : count ≤ 64 = count_low a.config a.word 0 count c.ranges.word.fits c.in-Ok.ensures.answer in
     let high : count / 256 ≡ 0 = omega arith in
     let low : count % 256 ≡ count = omega arith in
-    rw (high, low) c.in-Ok.ensures
+    rw (high, low) c.in-Ok.ensures.answer
