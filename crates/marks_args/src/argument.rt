@@ -1,5 +1,5 @@
 // The arguments of the program, one after the other, as numbers, codes and keywords.
-ghost use Rattle.std.specs.Prelude.{◌≤◌, length, IfSome};
+ghost use Rattle.std.specs.Prelude.{◌≡◌, ◌≤◌, length, IfErr, IfSome};
 
 use crate::faults::{Fault, Misuse};
 use crate::keyword::{Keyword, keyword_of};
@@ -31,12 +31,16 @@ pub struct Arguments<'a, E: Env> {
 }
 
 impl<'a, E: Env> Arguments<'a, E> {
-    pub fn new(rt: &'a E) -> Self {
+    pub fn new(rt: &'a E) -> Self
+        ensures { result.at ≡ 0 }
+    {
         Arguments { rt, at: 0 }
     }
 
     // What is wrong with the argument that was read last.
-    pub fn misuse(&self, fault: Fault) -> Misuse {
+    pub fn misuse(&self, fault: Fault) -> Misuse
+        ensures { (result.fault ≡ fault) × (result.at ≡ self.now.at) }
+    {
         Misuse { fault, at: self.at }
     }
 
@@ -49,7 +53,9 @@ impl<'a, E: Env> Arguments<'a, E> {
     }
 
     // The next argument as a decimal number.
-    pub fn number(&mut self) -> Result<u64, Misuse> {
+    pub fn number(&mut self) -> Result<u64, Misuse>
+        ensures { IfErr result (λ m. m.at ≡ self.new.at) }
+    {
         let mut space = [0u8; 4096];
         let Some(length) = self.next(&mut space) else {
             return Err(self.misuse(Fault::Missing));
@@ -62,7 +68,9 @@ impl<'a, E: Env> Arguments<'a, E> {
     }
 
     // The next argument as a decimal number of at most 32 bits.
-    pub fn word(&mut self) -> Result<u32, Misuse> {
+    pub fn word(&mut self) -> Result<u32, Misuse>
+        ensures { IfErr result (λ m. m.at ≡ self.new.at) }
+    {
         let n = self.number()?;
         let Ok(word) = u32::try_from(n) else {
             return Err(self.misuse(Fault::NotNumber));
@@ -71,13 +79,17 @@ impl<'a, E: Env> Arguments<'a, E> {
     }
 
     // The next argument as a decimal number that has its limit below 255: one of 255 or more is out of its limits as 255 is.
-    pub fn byte(&mut self) -> Result<u8, Misuse> {
+    pub fn byte(&mut self) -> Result<u8, Misuse>
+        ensures { IfErr result (λ m. m.at ≡ self.new.at) }
+    {
         let n = self.word()?;
         Ok(u8::try_from(n).unwrap_or(u8::MAX))
     }
 
     // The next argument as an identifier code: 1 to 8 bytes from 33 to 126.
-    pub fn code(&mut self) -> Result<u64, Misuse> {
+    pub fn code(&mut self) -> Result<u64, Misuse>
+        ensures { IfErr result (λ m. m.at ≡ self.new.at) }
+    {
         let mut space = [0u8; 4096];
         let Some(length) = self.next(&mut space) else {
             return Err(self.misuse(Fault::Missing));
@@ -90,7 +102,9 @@ impl<'a, E: Env> Arguments<'a, E> {
     }
 
     // The next argument as the keyword of an option; none where the arguments end.
-    pub fn keyword(&mut self) -> Result<Option<Keyword>, Misuse> {
+    pub fn keyword(&mut self) -> Result<Option<Keyword>, Misuse>
+        ensures { IfErr result (λ m. m.at ≡ self.new.at) }
+    {
         let mut space = [0u8; 4096];
         let Some(length) = self.next(&mut space) else {
             return Ok(None);

@@ -1,5 +1,5 @@
 // The arguments, option by option.
-ghost use Rattle.std.specs.Prelude.{◌≤◌};
+ghost use Rattle.std.specs.Prelude.{◌≡◌, ◌≤◌, IfErr};
 
 use crate::argument::Arguments;
 use crate::faults::{Fault, Misuse};
@@ -17,6 +17,7 @@ fn connect(
     entry: usize,
 ) -> Result<(), Misuse>
     requires { entry ≤ 2 }
+    ensures { IfErr result (λ m. m.at ≡ arguments.new.at) }
 {
     let code = arguments.code()?;
     let index = arguments.number()?;
@@ -32,6 +33,7 @@ fn connect_port(
     word: usize,
 ) -> Result<Range, Misuse>
     requires { word ≤ 3 }
+    ensures { IfErr result (λ m. m.at ≡ arguments.new.at) }
 {
     let code = arguments.code()?;
     let left = arguments.number()?;
@@ -62,7 +64,9 @@ fn take_option(
     arguments: &mut Arguments<impl Env>,
     wires: &mut [u64; 258],
     config: &mut Config,
-) -> Result<(), Misuse> {
+) -> Result<(), Misuse>
+    ensures { IfErr result (λ m. m.at ≡ arguments.new.at) }
+{
     match keyword {
         Keyword::Clock => connect(arguments, wires, 0)?,
         Keyword::Reset => connect(arguments, wires, 1)?,
