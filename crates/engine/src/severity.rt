@@ -9,8 +9,7 @@ use trace::{Reached, Stretch};
 
 // Runs a stretch of a trace into lent rows and words. The severity and the kind are looked at once for the stretch, and each family has loops of its own, in which the
 // compiler can keep what depends on the configuration alone. The loop of a stretch that does not stop has no test for it, and that of a checker that goes on none for a
-// failure. Fatal checkers are called in two places, so that the compiler does not put their loops beside these: with as many loops in one function it does not make
-// loops for each direction of a bus any more.
+// failure. Each of these loops is a function of its own (`runs::Run`).
 pub fn run(c: Config, trace: &[u32], rows: &mut [u32], words: &mut [u64], s: Stretch) -> Reached
     requires { Runnable c trace.now rows.old words.old s }
     ensures { Ran c trace.now rows.old words.old s rows.new words.new result }

@@ -14,6 +14,7 @@ impl Run for Fill {
 
     ghost leaves = { Ran };
 
+    #[inline(never)]
     fn run<S: CycleStep>(
         stepper: S,
         trace: &[u32],

@@ -38,7 +38,7 @@ pub fn events_in(c: Config, frame: Frame) -> Events
     }
 }
 
-// The events of cycle t of a trace. A loop over a trace reads the cycle and steps in two calls: together they are too large to be inlined.
+// The events of cycle t of a trace. A loop over a trace reads the cycle and steps in two calls.
 pub fn events_at(c: Config, trace: &[u32], t: usize) -> Events
     requires { (Good c) × (family c.kind ≡ sequence) × (t < frames trace.now) }
     ensures { Sees c (frame_at trace.now t) result }
@@ -82,7 +82,8 @@ fn sequence_step(c: Config, word: u64, events: Events) -> Outcome
     }
 }
 
-// The step in any cycle: a reset ends everything.
+// The step in any cycle: a reset ends everything. It is part of each loop over a trace: as a call it would take a copy of the configuration and of the events in each cycle.
+#[inline(always)]
 pub fn events_cycle(c: Config, word: u64, events: Events) -> Outcome
     requires { (Good c) × (GoesOn sequence c) × (T (possible c word)) }
     ensures { (frame : Frame) → Sees c frame events → Steps c word frame result.row result.word }
