@@ -1,11 +1,12 @@
-// The family of a kind decides which steps a run makes. It is looked at once for a stretch, and each run has a loop of its own for each family, in which the compiler can keep
-// what depends on the configuration alone.
+// The family of a kind, and of kinds 3 to 5 the kind, decides which steps a run makes. It is looked at once for a stretch, and each run has a loop of its own for each of these
+// steps, in which the compiler can keep what depends on the configuration alone.
 ghost use Rattle.std.specs.Prelude.{◌≡◌};
-ghost use Rattle.rules.specs.Config.{Good};
+ghost use Rattle.rules.specs.Config.{Good, GoesOn};
+ghost use Rattle.rules.specs.Config.Family.{time};
 
 use super::sequence_step::SequenceStep;
 use super::stability_step::StabilityStep;
-use super::time_step::TimeStep;
+use super::time_step::{ErrorStep, IgnoringStep, RestartingStep};
 use super::transition_step::{DescendingStep, TransitionStep};
 use super::value_step::ValueStep;
 use expected::expected_wires;
@@ -13,6 +14,26 @@ use rules::{Config, Family};
 use runs::Run;
 use trace::{Reached, Stretch};
 use transition::all_descend;
+
+// Runs a stretch of kinds 3 to 5, by the steps of the kind. It is no part of its caller, so that the other loops of a fatal checker, which are in one function (`runs::Run`), do not
+// share their registers with these.
+#[inline(never)]
+fn run_time<R: Run>(
+    c: Config,
+    trace: &[u32],
+    rows: &mut [u32],
+    words: &mut [u64],
+    s: Stretch,
+) -> Reached
+    requires { (Good c) × (GoesOn time c) × (R.asks c trace.now rows.old words.old s) }
+    ensures { R.leaves c trace.now rows.old words.old s rows.new words.new result }
+{
+    match c.kind {
+        3 => R::run(IgnoringStep { c }, trace, rows, words, s),
+        4 => R::run(RestartingStep { c }, trace, rows, words, s),
+        _ => R::run(ErrorStep { c }, trace, rows, words, s),
+    }
+}
 
 // Runs a stretch of a checker that goes on, by the steps of its family.
 pub fn run_family<R: Run>(
@@ -27,7 +48,7 @@ pub fn run_family<R: Run>(
 {
     match c.family() {
         Family::Sequence => R::run(SequenceStep { c }, trace, rows, words, s),
-        Family::Time => R::run(TimeStep { c }, trace, rows, words, s),
+        Family::Time => run_time::<R>(c, trace, rows, words, s),
         Family::Transition => {
             if all_descend(c) {
                 R::run(DescendingStep { c }, trace, rows, words, s)

@@ -11,6 +11,6 @@ mod value_step;
 pub use family::run_family;
 pub use sequence_step::SequenceStep;
 pub use stability_step::StabilityStep;
-pub use time_step::TimeStep;
+pub use time_step::{ErrorStep, IgnoringStep, RestartingStep};
 pub use transition_step::{DescendingStep, TransitionStep};
 pub use value_step::ValueStep;

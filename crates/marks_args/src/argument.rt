@@ -1,4 +1,5 @@
 // The arguments of the program, one after the other, as numbers, codes and keywords.
+ghost use Rattle.marks_args.specs.Arguments.{behind};
 ghost use Rattle.std.specs.Prelude.{◌≡◌, ◌≤◌, length, IfErr, IfSome};
 
 use crate::faults::{Fault, Misuse};
@@ -45,8 +46,9 @@ impl<'a, E: Env> Arguments<'a, E> {
     }
 
     // The next argument at the start of the space, and its length.
+    #[tactic(auto, unfolding(crate::specs::Arguments::behind))]
     fn next(&mut self, space: &mut [u8; 4096]) -> Option<usize>
-        ensures { IfSome result (λ n. n ≤ 4096) }
+        ensures { (self.new.at ≡ behind self.old.at) × IfSome result (λ n. n ≤ 4096) }
     {
         self.at = self.at.saturating_add(1);
         read_argument(self.rt, self.at, space)
@@ -54,7 +56,7 @@ impl<'a, E: Env> Arguments<'a, E> {
 
     // The next argument as a decimal number.
     pub fn number(&mut self) -> Result<u64, Misuse>
-        ensures { IfErr result (λ m. m.at ≡ self.new.at) }
+        ensures { (self.new.at ≡ behind self.old.at) × IfErr result (λ m. m.at ≡ self.new.at) }
     {
         let mut space = [0u8; 4096];
         let Some(length) = self.next(&mut space) else {
@@ -69,7 +71,7 @@ impl<'a, E: Env> Arguments<'a, E> {
 
     // The next argument as a decimal number of at most 32 bits.
     pub fn word(&mut self) -> Result<u32, Misuse>
-        ensures { IfErr result (λ m. m.at ≡ self.new.at) }
+        ensures { (self.new.at ≡ behind self.old.at) × IfErr result (λ m. m.at ≡ self.new.at) }
     {
         let n = self.number()?;
         let Ok(word) = u32::try_from(n) else {
@@ -80,7 +82,7 @@ impl<'a, E: Env> Arguments<'a, E> {
 
     // The next argument as a decimal number that has its limit below 255: one of 255 or more is out of its limits as 255 is.
     pub fn byte(&mut self) -> Result<u8, Misuse>
-        ensures { IfErr result (λ m. m.at ≡ self.new.at) }
+        ensures { (self.new.at ≡ behind self.old.at) × IfErr result (λ m. m.at ≡ self.new.at) }
     {
         let n = self.word()?;
         Ok(u8::try_from(n).unwrap_or(u8::MAX))
@@ -88,7 +90,7 @@ impl<'a, E: Env> Arguments<'a, E> {
 
     // The next argument as an identifier code: 1 to 8 bytes from 33 to 126.
     pub fn code(&mut self) -> Result<u64, Misuse>
-        ensures { IfErr result (λ m. m.at ≡ self.new.at) }
+        ensures { (self.new.at ≡ behind self.old.at) × IfErr result (λ m. m.at ≡ self.new.at) }
     {
         let mut space = [0u8; 4096];
         let Some(length) = self.next(&mut space) else {
@@ -103,7 +105,7 @@ impl<'a, E: Env> Arguments<'a, E> {
 
     // The next argument as the keyword of an option; none where the arguments end.
     pub fn keyword(&mut self) -> Result<Option<Keyword>, Misuse>
-        ensures { IfErr result (λ m. m.at ≡ self.new.at) }
+        ensures { (self.new.at ≡ behind self.old.at) × IfErr result (λ m. m.at ≡ self.new.at) }
     {
         let mut space = [0u8; 4096];
         let Some(length) = self.next(&mut space) else {

@@ -1,5 +1,5 @@
 // The arguments, option by option.
-ghost use Rattle.std.specs.Prelude.{◌≡◌, ◌≤◌, IfErr};
+ghost use Rattle.std.specs.Prelude.{◌≡◌, ◌≤◌, ◌+◌, IfErr};
 
 use crate::argument::Arguments;
 use crate::faults::{Fault, Misuse};
@@ -11,13 +11,14 @@ use rules::Config;
 use std::env::Env;
 
 // The clock, reset_n or enable: a code and an index.
+#[tactic(auto, unfolding(crate::specs::Arguments::behind))]
 fn connect(
     arguments: &mut Arguments<impl Env>,
     wires: &mut [u64; 258],
     entry: usize,
 ) -> Result<(), Misuse>
     requires { entry ≤ 2 }
-    ensures { IfErr result (λ m. m.at ≡ arguments.new.at) }
+    ensures { (arguments.new.at ≤ arguments.old.at + 2) × IfErr result (λ m. m.at ≡ arguments.new.at) }
 {
     let code = arguments.code()?;
     let index = arguments.number()?;
@@ -27,13 +28,14 @@ fn connect(
 
 // P, Q or R: a code, and the indices of its left and right wire. The port is declared [left-right:0] where left is at least right, else [0:right-left]: both
 // ways the lowest index becomes wire 0 of the port's word of a frame.
+#[tactic(auto, unfolding(crate::specs::Arguments::behind))]
 fn connect_port(
     arguments: &mut Arguments<impl Env>,
     wires: &mut [u64; 258],
     word: usize,
 ) -> Result<Range, Misuse>
     requires { word ≤ 3 }
-    ensures { IfErr result (λ m. m.at ≡ arguments.new.at) }
+    ensures { (arguments.new.at ≤ arguments.old.at + 3) × IfErr result (λ m. m.at ≡ arguments.new.at) }
 {
     let code = arguments.code()?;
     let left = arguments.number()?;
@@ -59,13 +61,14 @@ fn connect_port(
 }
 
 // What follows the keyword of an option.
+#[tactic(auto, unfolding(crate::specs::Arguments::behind))]
 fn take_option(
     keyword: Keyword,
     arguments: &mut Arguments<impl Env>,
     wires: &mut [u64; 258],
     config: &mut Config,
 ) -> Result<(), Misuse>
-    ensures { IfErr result (λ m. m.at ≡ arguments.new.at) }
+    ensures { (arguments.new.at ≤ arguments.old.at + 3) × IfErr result (λ m. m.at ≡ arguments.new.at) }
 {
     match keyword {
         Keyword::Clock => connect(arguments, wires, 0)?,

@@ -8,7 +8,7 @@ use super::step::CycleStep;
 use trace::{Reached, Stretch};
 
 // A way of running a stretch, by any way of stepping a checker. `Fill` and `Seek` mark theirs to be no part of the caller, so that the loop of each step has the registers of a function of its own:
-// with the loops of all families in one function, that of kind 4 took 1.4 times as long. Those of `Watch` stay together, since apart they took up to 1.3 times as long (docs/PERFORMANCE.md). The trace, the rows, the words and the stretch are lent one by one: a struct of them would have to be
+// with the loops of all families in one function, that of kind 4 took up to 1.4 times as long. Those of `Watch` stay together, since apart they took up to 1.3 times as long (docs/PERFORMANCE.md). The trace, the rows, the words and the stretch are lent one by one: a struct of them would have to be
 // made again for each call that lends the rows and words on.
 pub trait Run {
     // of the checker, the trace, the rows and words as they are, and the stretch
